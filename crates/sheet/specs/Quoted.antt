@@ -1,0 +1,65 @@
+-- What reading and writing a quoted name answers.
+use mathlib.Core.List.{List, [], _∷_, _++_}
+use mathlib.Core.Bool.{Bool, true, false, cond}
+use Prim.Native.Nat.{ℕ, zero, suc, _+_}
+use lib.Dec.{leb, eqb}
+use lib.ListN.{length, getD, drop}
+use Rattle.std.specs.declared.option.Option.{Option}
+use Rattle.std.specs.declared.option.Option.the-variants.{Some, None}
+use Rattle.std.specs.declared.result.Result.{Result}
+use Rattle.std.specs.declared.result.Result.the-variants.{Ok, Err}
+use Rattle.base.specs.declared.refusal.Cause.{Cause}
+use Rattle.base.specs.declared.refusal.Cause.the-variants.{BadText, BufferShort}
+use Rattle.base.specs.declared.refusal.Refusal.{Refusal}
+use Rattle.sheet.specs.Text.{printable, good, inner, quoted}
+
+abbrev pub refused : {X : Type 0} → Cause → ℕ → Result X Refusal
+refused cause place = Err (record { cause = cause; place = place })
+
+-- what is read, behind what was read before it
+abbrev pub after : List ℕ → Option (List ℕ) → Option (List ℕ)
+after xs (Some ys) = Some (xs ++ ys)
+after xs None = None
+
+-- the text in front of its closing quote, of less than n bytes; past the end of the bytes stands 0
+abbrev pub body : ℕ → List ℕ → Option (List ℕ)
+body zero bytes = None
+body (suc n) bytes =
+  cond (eqb (getD bytes 0 0) 34)
+    (cond (eqb (getD bytes 1 0) 34) (after (34 ∷ []) (body n (drop 2 bytes))) (Some []))
+    (cond (printable (getD bytes 0 0)) (after (getD bytes 0 0 ∷ []) (body n (drop 1 bytes))) None)
+
+abbrev pub nonempty : Option (List ℕ) → Option (List ℕ)
+nonempty (Some []) = None
+nonempty (Some (c ∷ cs)) = Some (c ∷ cs)
+nonempty None = None
+
+-- the text whose quoted form the bytes begin with
+abbrev pub unquoted : List ℕ → Option (List ℕ)
+unquoted bytes = cond (eqb (getD bytes 0 0) 34) (nonempty (body 33 (drop 1 bytes))) None
+
+-- begin and end of the written text inside its outer quotes, and the place behind them
+abbrev pub extent : ℕ → Option (List ℕ) → Result (ℕ × ℕ × ℕ) Refusal
+extent at (Some text) = Ok (at + 1, at + 1 + length (inner text), at + 1 + length (inner text) + 1)
+extent at None = refused BadText 1
+
+-- how many bytes a text takes when quoted
+abbrev pub sized : List ℕ → Result ℕ Refusal
+sized text = cond (good text) (Ok (length (quoted text))) (refused BadText 1)
+
+abbrev pub room : ℕ → Result ℕ Refusal → Result ℕ Refusal
+room n (Ok size) = cond (leb size n) (Ok size) (refused BufferShort 0)
+room n (Err e) = Err e
+
+-- what writing a text into the front of a buffer answers: the text is judged first, then the room
+abbrev pub written : List ℕ → List ℕ → Result ℕ Refusal
+written tail text = room (length tail) (sized text)
+
+-- the bytes that are written: none where refused
+abbrev pub piece : Result ℕ Refusal → List ℕ → List ℕ
+piece (Ok n) bytes = bytes
+piece (Err e) bytes = []
+
+-- the buffer with its front written over
+abbrev pub overlaid : List ℕ → List ℕ → List ℕ
+overlaid piece tail = piece ++ drop (length piece) tail
