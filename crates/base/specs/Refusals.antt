@@ -1,7 +1,10 @@
 -- The refusals: which number and which layer each cause has.
 use Prim.Native.Nat.{ℕ}
+use Rattle.std.specs.declared.result.Result.{Result}
+use Rattle.std.specs.declared.result.Result.the-variants.{Err}
 use Rattle.base.specs.declared.refusal.Cause.{Cause}
 use Rattle.base.specs.declared.refusal.Cause.the-variants.{ImageSize, NumberRange, RecordEnd, LabelOrder, Opcode, StackDepth, NoSuchIndex, TypeMismatch, UnknownLabel, Arity, TableMismatch, NotLoaded, PolicyNotEmpty, PolicyFull, NoWaitingThread, NoFreeCell, NoFreeChannel, StepLimit, StuckStack, StuckIndex, StuckKind, StuckLabel, StuckCounts, BudgetRange, NoAnswer, NoPlace, TapeSize, SheetLine, BadText, BadNumber, NameTwice, NameUnknown, NamesDiffer, BufferShort}
+use Rattle.base.specs.declared.refusal.Refusal.{Refusal}
 
 pub record Assigned : Type 0 where
   pub number : ℕ
@@ -46,3 +49,7 @@ assigned NameTwice = in-layer 5 31
 assigned NameUnknown = in-layer 5 32
 assigned NamesDiffer = in-layer 5 33
 assigned BufferShort = in-layer 5 34
+
+-- the answer of a call that is refused
+abbrev pub refused : {X : Type 0} → Cause → ℕ → Result X Refusal
+refused cause place = Err (record { cause = cause; place = place })

@@ -15,7 +15,8 @@ use Rattle.std.proofs.shelf.Lists.{drop-drop, getD-drop, append-nil, joined-mor
 use Rattle.std.proofs.shelf.Tests.{eq-eqb, ne-eqb, cond-true, cond-false, cond-both, and-parts, leb-true}
 use Rattle.base.specs.declared.refusal.Cause.the-variants.{BadText}
 use Rattle.sheet.specs.Text.{letter, inner, printable}
-use Rattle.sheet.specs.Quoted.{after, body, nonempty, unquoted, extent, refused}
+use Rattle.sheet.specs.Quoted.{after, body, nonempty, unquoted, extent}
+use Rattle.base.specs.Refusals.{refused}
 
 pub head-drop : (l : List ℕ) (n : ℕ) → getD (drop n l) 0 0 ≡ getD l n 0
 head-drop l n = let e : n + 0 ≡ n = omega arith in getD-drop n l 0 0 ∙ ap (λ k. getD l k 0) e

@@ -17,7 +17,9 @@ use Rattle.std.proofs.shelf.Lists.{take-at}
 use Rattle.base.specs.declared.refusal.Refusal.{Refusal}
 use Rattle.base.specs.declared.refusal.Cause.the-variants.{BadText, BufferShort}
 use Rattle.sheet.specs.Text.{letter, inner, quoted, printable, all-printable, good}
-use Rattle.sheet.specs.Quoted.{after, body, nonempty, unquoted, extent, refused, sized, room, written, overlaid, piece}
+use Rattle.sheet.specs.Quoted.{after, body, nonempty, unquoted, extent, sized, written}
+use Rattle.base.specs.Refusals.{refused}
+use Rattle.lines.specs.Overlay.{room, overlaid, piece}
 use Rattle.sheet.specs.RoundTrips.{Begins, Reads-exactly, Same-bytes, Rewrites, Read-back, Reads-back}
 use Rattle.sheet.proofs.Reading.{body-plain, body-two, body-closed, head-drop}
 use Rattle.sheet.proofs.Writing.{one, two, letters, sized-good, sized-ok, quoted-size}

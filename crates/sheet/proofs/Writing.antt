@@ -13,7 +13,9 @@ use Rattle.std.proofs.shelf.Lists.{at-drop-more, drop-more, take-more, joined-m
 use Rattle.std.proofs.shelf.Tests.{eq-eqb, ne-eqb, le-leb, lt-leb, cond-true, cond-false, and-from, and-left, and-right}
 use Rattle.base.specs.declared.refusal.Cause.the-variants.{BadText, BufferShort}
 use Rattle.sheet.specs.Text.{letter, inner, quoted, printable, all-printable, good}
-use Rattle.sheet.specs.Quoted.{sized, refused, room, written, overlaid}
+use Rattle.sheet.specs.Quoted.{sized, written}
+use Rattle.base.specs.Refusals.{refused}
+use Rattle.lines.specs.Overlay.{room, overlaid}
 use Rattle.base.specs.declared.refusal.Refusal.{Refusal}
 use Rattle.sheet.proofs.Reading.{letter-some}
 

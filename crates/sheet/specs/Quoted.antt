@@ -1,20 +1,18 @@
 -- What reading and writing a quoted name answers.
 use mathlib.Core.List.{List, [], _∷_, _++_}
-use mathlib.Core.Bool.{Bool, true, false, cond}
+use mathlib.Core.Bool.{cond}
 use Prim.Native.Nat.{ℕ, zero, suc, _+_}
-use lib.Dec.{leb, eqb}
+use lib.Dec.{eqb}
 use lib.ListN.{length, getD, drop}
 use Rattle.std.specs.declared.option.Option.{Option}
 use Rattle.std.specs.declared.option.Option.the-variants.{Some, None}
 use Rattle.std.specs.declared.result.Result.{Result}
-use Rattle.std.specs.declared.result.Result.the-variants.{Ok, Err}
-use Rattle.base.specs.declared.refusal.Cause.{Cause}
-use Rattle.base.specs.declared.refusal.Cause.the-variants.{BadText, BufferShort}
+use Rattle.std.specs.declared.result.Result.the-variants.{Ok}
+use Rattle.base.specs.declared.refusal.Cause.the-variants.{BadText}
 use Rattle.base.specs.declared.refusal.Refusal.{Refusal}
+use Rattle.base.specs.Refusals.{refused}
+use Rattle.lines.specs.Overlay.{room}
 use Rattle.sheet.specs.Text.{printable, good, inner, quoted}
-
-abbrev pub refused : {X : Type 0} → Cause → ℕ → Result X Refusal
-refused cause place = Err (record { cause = cause; place = place })
 
 -- what is read, behind what was read before it
 abbrev pub after : List ℕ → Option (List ℕ) → Option (List ℕ)
@@ -47,19 +45,6 @@ extent at None = refused BadText 1
 abbrev pub sized : List ℕ → Result ℕ Refusal
 sized text = cond (good text) (Ok (length (quoted text))) (refused BadText 1)
 
-abbrev pub room : ℕ → Result ℕ Refusal → Result ℕ Refusal
-room n (Ok size) = cond (leb size n) (Ok size) (refused BufferShort 0)
-room n (Err e) = Err e
-
 -- what writing a text into the front of a buffer answers: the text is judged first, then the room
 abbrev pub written : List ℕ → List ℕ → Result ℕ Refusal
 written tail text = room (length tail) (sized text)
-
--- the bytes that are written: none where refused
-abbrev pub piece : Result ℕ Refusal → List ℕ → List ℕ
-piece (Ok n) bytes = bytes
-piece (Err e) bytes = []
-
--- the buffer with its front written over
-abbrev pub overlaid : List ℕ → List ℕ → List ℕ
-overlaid piece tail = piece ++ drop (length piece) tail

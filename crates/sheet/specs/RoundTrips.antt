@@ -10,7 +10,8 @@ use Rattle.std.specs.declared.result.Result.{Result}
 use Rattle.std.specs.declared.result.Result.the-variants.{Ok}
 use Rattle.base.specs.declared.refusal.Refusal.{Refusal}
 use Rattle.sheet.specs.Text.{good, quoted}
-use Rattle.sheet.specs.Quoted.{unquoted, extent, written, overlaid}
+use Rattle.sheet.specs.Quoted.{unquoted, extent, written}
+use Rattle.lines.specs.Overlay.{overlaid}
 
 -- the bytes begin with the quoted form of the text, and no further quote follows it
 pub record Begins (bytes text : List ℕ) : Type 0 where

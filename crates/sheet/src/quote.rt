@@ -1,6 +1,7 @@
 // Quoted names: read at a place of the bytes, and written at the front of a buffer's tail.
 ghost use Rattle.base.specs.declared.refusal.Cause.the-variants.{BadText};
-ghost use Rattle.sheet.specs.Quoted.{extent, overlaid, piece, sized, unquoted, written};
+ghost use Rattle.lines.specs.Overlay.{overlaid, piece};
+ghost use Rattle.sheet.specs.Quoted.{extent, sized, unquoted, written};
 ghost use Rattle.sheet.specs.RoundTrips.{Reads-back, Reads-exactly, Rewrites};
 ghost use Rattle.sheet.specs.Text.{printable, quoted};
 ghost use Prim.Native.Nat.{ℕ, _<_};
