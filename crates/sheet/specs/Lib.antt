@@ -5,3 +5,9 @@ pub mod Number
 pub mod Same
 pub mod Format
 pub mod Written
+pub mod Keys
+pub mod Ends
+pub mod Part
+pub mod View
+pub mod Rests
+pub mod Sections

@@ -1,0 +1,27 @@
+-- What a sheet that was read says.
+use mathlib.Core.List.{List, map}
+use Prim.Native.Nat.{ℕ}
+use denote.Ref.{now}
+use lib.ListN.{take}
+use Rattle.sheet.specs.declared.extent.Extent.{Extent}
+use Rattle.sheet.specs.declared.sheet.Sheet.{Sheet}
+use Rattle.sheet.specs.Format.{Contents}
+use Rattle.sheet.specs.Part.{part, text-at}
+
+abbrev pub source : Sheet → List ℕ
+source s = now (s .bytes)
+
+-- where the names stand
+abbrev pub name-extents : Sheet → List Extent
+name-extents s = take (s .«name_count») (s .names)
+
+-- the names as they are written inside their outer quotes
+abbrev pub written-names : Sheet → List (List ℕ)
+written-names s = map (part (source s)) (name-extents s)
+
+abbrev pub view : Sheet → Contents
+view s = record {
+  style = text-at (source s) (s .style);
+  names = map (text-at (source s)) (name-extents s);
+  asks = take (s .«ask_count») (s .asks);
+}

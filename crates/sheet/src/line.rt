@@ -1,0 +1,44 @@
+// The lines of a sheet: where one ends, and which key it begins with.
+ghost use Rattle.sheet.specs.Ends.{Within, cut-at};
+ghost use Rattle.sheet.specs.Format.{cut};
+ghost use Rattle.sheet.specs.Keys.{key-of};
+ghost use lib.ListN.{drop};
+ghost use mathlib.Core.Path.{_≡_};
+
+const NEWLINE: u8 = b'\n';
+
+#[derive(Clone, Copy)]
+pub(crate) enum Key {
+    Style,
+    Names,
+    Name,
+    Asks,
+    Ask,
+}
+
+// The place of the byte 10 that ends the line at a place.
+pub(crate) fn line_end(bytes: &[u8], place: usize) -> Option<usize>
+    ensures value { λ r. ⌜ cut-at (now (bytes .entry)) place r ≡ cut (drop place (now (bytes .entry))) ⌝ }
+    ensures inside { λ r. ⌜ Within (now (bytes .entry)) place r ⌝ }
+{
+    for i in place..bytes.len() {
+        if bytes[i] == NEWLINE {
+            return Some(i);
+        }
+    }
+    None
+}
+
+// The key that a line begins with, and how long it is.
+pub(crate) fn read_key(line: &[u8]) -> Option<(Key, usize)>
+    ensures { λ r. ⌜ r ≡ key-of (now (line .entry)) ⌝ }
+{
+    match line {
+        [b's', b't', b'y', b'l', b'e', b'=', ..] => Some((Key::Style, 6)),
+        [b'n', b'a', b'm', b'e', b's', b'=', ..] => Some((Key::Names, 6)),
+        [b'n', b'a', b'm', b'e', b'=', ..] => Some((Key::Name, 5)),
+        [b'a', b's', b'k', b's', b'=', ..] => Some((Key::Asks, 5)),
+        [b'a', b's', b'k', b'=', ..] => Some((Key::Ask, 4)),
+        _ => None,
+    }
+}
