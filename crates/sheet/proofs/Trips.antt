@@ -162,7 +162,7 @@ rewrites bytes at r value b e behind h =
         take-at (quoted text) (drop (length (quoted text)) tail) (behind - at) size ∙ sym (ap (take (behind - at)) (a .1 .is) ∙ take-at (quoted text) (a .1 .rest) (behind - at) size);
     }
 
-written-good : (tail text : List ℕ) (n : ℕ) → written tail text ≡ Ok n → (good text ≡ true) × (n ≡ length (quoted text))
+pub written-good : (tail text : List ℕ) (n : ℕ) → written tail text ≡ Ok n → (good text ≡ true) × (n ≡ length (quoted text))
 written-good tail text n e = go (good text) refl e
   where
     last : (b : Bool) → _≡_ {A = Result ℕ Refusal} (cond b (Ok (length (quoted text))) (refused BufferShort 0)) (Ok n) → n ≡ length (quoted text)

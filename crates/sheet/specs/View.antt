@@ -3,6 +3,9 @@ use mathlib.Core.List.{List, map}
 use Prim.Native.Nat.{ℕ}
 use denote.Ref.{now}
 use lib.ListN.{take}
+use Rattle.std.specs.declared.option.Option.{Option}
+use Rattle.std.specs.declared.option.Option.the-variants.{Some, None}
+use Rattle.base.specs.declared.ids.NameId.{NameId}
 use Rattle.sheet.specs.declared.extent.Extent.{Extent}
 use Rattle.sheet.specs.declared.sheet.Sheet.{Sheet}
 use Rattle.sheet.specs.Format.{Contents}
@@ -25,3 +28,8 @@ view s = record {
   names = map (text-at (source s)) (name-extents s);
   asks = take (s .«ask_count») (s .asks);
 }
+
+-- a name number, where one is found
+abbrev pub numbered : Option ℕ → Option NameId
+numbered (Some i) = Some (record { 0 = i })
+numbered None = None

@@ -1,6 +1,11 @@
 // A sheet as its lines are read: empty at first, then one thing more by each line.
-ghost use Rattle.sheet.specs.Format.{titled};
+ghost use Rattle.sheet.specs.Format.{titled, with-ask, with-name};
+ghost use Rattle.sheet.specs.Part.{text-at};
+ghost use Rattle.sheet.specs.Rests.{Stands};
+ghost use Rattle.sheet.specs.Sections.{with-style};
 ghost use Rattle.sheet.specs.View.{source, view};
+ghost use Prim.Native.Nat.{_<_};
+ghost use lib.ListN.{length};
 ghost use mathlib.Core.List.{[]};
 ghost use mathlib.Core.Path.{_≡_};
 use super::MOST;
@@ -23,5 +28,32 @@ impl<'a> Sheet<'a> {
             asks: [0; MOST],
             ask_count: 0,
         }
+    }
+
+    pub(crate) fn set_style(&mut self, at: Extent)
+        requires { ⌜ Stands (source (now self)) at ⌝ }
+        ensures says { λ _. ⌜ view (now (self .exit)) ≡ with-style (view (now (self .entry))) (text-at (source (now (self .entry))) at) ⌝ }
+        ensures from { λ _. ⌜ source (now (self .exit)) ≡ source (now (self .entry)) ⌝ }
+    {
+        self.style = at;
+    }
+
+    pub(crate) fn add_name(&mut self, at: Extent)
+        requires stands { ⌜ Stands (source (now self)) at ⌝ }
+        requires room { ⌜ length (view (now self) .names) < 128 ⌝ }
+        ensures says { λ _. ⌜ view (now (self .exit)) ≡ with-name (view (now (self .entry))) (text-at (source (now (self .entry))) at) ⌝ }
+        ensures from { λ _. ⌜ source (now (self .exit)) ≡ source (now (self .entry)) ⌝ }
+    {
+        self.names[self.name_count] = at;
+        self.name_count += 1;
+    }
+
+    pub(crate) fn add_ask(&mut self, answer: i32)
+        requires { ⌜ length (view (now self) .asks) < 128 ⌝ }
+        ensures says { λ _. ⌜ view (now (self .exit)) ≡ with-ask (view (now (self .entry))) answer ⌝ }
+        ensures from { λ _. ⌜ source (now (self .exit)) ≡ source (now (self .entry)) ⌝ }
+    {
+        self.asks[self.ask_count] = answer;
+        self.ask_count += 1;
     }
 }
