@@ -11,8 +11,9 @@ use Rattle.std.specs.declared.option.Option.{Option}
 use Rattle.std.specs.declared.option.Option.the-variants.{Some, None}
 use Rattle.std.specs.declared.result.Result.{Result}
 use Rattle.std.specs.declared.result.Result.the-variants.{Ok, Err}
-use Rattle.std.proofs.shelf.Lists.{drop-drop, take-at}
-use Rattle.std.proofs.shelf.Tests.{eq-eqb, ne-eqb, cond-true, cond-false, cases-eq}
+use Rattle.std.proofs.shelf.Lists.{drop-drop, drop-take, take-at, take-take, length-take-le}
+use Rattle.std.proofs.shelf.Tests.{eq-eqb, ne-eqb, cond-true, cond-false, cases-eq, cases-lt}
+use Rattle.base.specs.declared.refusal.Cause.{Cause}
 use Rattle.base.specs.declared.refusal.Cause.the-variants.{BadText}
 use Rattle.base.specs.declared.refusal.Refusal.{Refusal}
 use Rattle.sheet.specs.declared.extent.Extent.{Extent}
@@ -97,3 +98,32 @@ module _ (bytes : List ℕ) (at b e p : ℕ) (h : Ok (b, e, p) ≡ extent at (un
 
 pub no-text : (bytes : List ℕ) (at : ℕ) (x : Refusal) → Err x ≡ extent at (unquoted (drop at bytes)) → text (drop at bytes) ≡ Err BadText
 no-text bytes at x h = ap (whole (drop at bytes)) (none-located at x (unquoted (drop at bytes)) h)
+
+-- what stands in a front of the bytes stands in the bytes
+module _ (bytes : List ℕ) (end : ℕ) (within : end ≤ length bytes) where
+  part-front : (e : Extent) → e .end ≤ end → part (take end bytes) e ≡ part bytes e
+  part-front e h =
+      let split : e .begin + (e .end - e .begin) ≤ end ⊎ (e .end - e .begin ≡ 0) =
+        elim (cases-lt (e .begin) (e .end)) [ inl l ↦ inl (omega arith) | inr m ↦ inr (omega arith) ] in
+      elim split [
+        inl l ↦
+          sym (drop-take (e .begin) (e .end - e .begin) (take end bytes))
+          ∙ ap (drop (e .begin)) (take-take (e .begin + (e .end - e .begin)) end bytes l)
+          ∙ drop-take (e .begin) (e .end - e .begin) bytes
+      | inr none ↦ ap (λ n. take n (drop (e .begin) (take end bytes))) none ∙ sym (ap (λ n. take n (drop (e .begin) bytes)) none) ]
+
+  pub stands-behind : (e : Extent) → Stands (take end bytes) e → Stands bytes e
+  stands-behind e s =
+      let far : e .end ≤ end = omega (arith, s .inside .1, length-take-le end bytes within) in
+      let same = part-front e far in
+      record {
+        inside = (s .inside .0, omega arith);
+        written = sym same ∙ s .written ∙ ap (λ l. inner (single false l)) same;
+        is-text = ap (λ l. good (single false l)) (sym same) ∙ s .is-text;
+      }
+
+  pub locates-behind : (verdict : Result (List ℕ) Cause) (r : Result Extent Cause) → Locates (take end bytes) verdict r → Locates bytes verdict r
+  locates-behind verdict (Ok e) h =
+      let far : e .end ≤ end = omega (arith, h .1 .inside .1, length-take-le end bytes within) in
+      (h .0 ∙ ap (λ l. Ok (single false l)) (part-front e far), stands-behind e (h .1))
+  locates-behind verdict (Err cause) h = h

@@ -70,11 +70,13 @@ module _ (bytes : List ℕ) (at : ℕ) where
   begun is = record { front = []; ends = omega arith; whole = sym (after-nil (body 33 (drop (at + 1) bytes))); opens = is }
 
   unquoted-is : getD bytes at 0 ≡ 34 → unquoted (drop at bytes) ≡ nonempty (body 33 (drop (at + 1) bytes))
+  unfolding unquoted
   unquoted-is is =
       cond-true _ _ _ (eq-eqb (getD (drop at bytes) 0 0) 34 (head-drop bytes at ∙ is))
       ∙ ap (λ l. nonempty (body 33 l)) (drop-drop 1 at bytes)
 
   pub unopened : (getD bytes at 0 ≡ 34 → ⊥) → extent at (unquoted (drop at bytes)) ≡ refused BadText 1
+  unfolding unquoted
   unopened other = ap (extent at) (cond-false _ _ _ (ne-eqb (getD (drop at bytes) 0 0) 34 (λ e. other (sym (head-drop bytes at) ∙ e))))
 
   module _ {i place : ℕ} (now : Reading bytes at i place) (turn : i < 33) where

@@ -118,6 +118,7 @@ within n bytes text rest is few some clean stops =
     ∙ nonempty-keeps text some
 
 pub accepted : (bytes : List ℕ) → Reads-exactly bytes
+unfolding unquoted
 accepted bytes text = (sound bytes, complete)
   where
     shape : (t rest : List ℕ) → quoted t ++ rest ≡ 34 ∷ (inner t ++ 34 ∷ rest)

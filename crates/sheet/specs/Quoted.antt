@@ -33,7 +33,7 @@ nonempty (Some (c ∷ cs)) = Some (c ∷ cs)
 nonempty None = None
 
 -- the text whose quoted form the bytes begin with
-abbrev pub unquoted : List ℕ → Option (List ℕ)
+unfoldable pub unquoted : List ℕ → Option (List ℕ)
 unquoted bytes = cond (eqb (getD bytes 0 0) 34) (nonempty (body 33 (drop 1 bytes))) None
 
 -- begin and end of the written text inside its outer quotes, and the place behind them

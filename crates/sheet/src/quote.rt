@@ -10,7 +10,7 @@ ghost use mathlib.Core.Path.{_≡_};
 use base::Cause;
 use base::Refusal;
 
-const QUOTE: u8 = b'"';
+pub(crate) const QUOTE: u8 = b'"';
 const LONGEST: usize = 32;
 const FIRST_PRINTABLE: u8 = b' ';
 const LAST_PRINTABLE: u8 = b'~';

@@ -9,6 +9,7 @@ ghost use mathlib.Core.Path.{_≡_};
 use crate::extent::Extent;
 
 mod fill;
+mod line;
 mod query;
 
 // At most 128 names, and as many asks.

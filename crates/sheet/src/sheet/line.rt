@@ -1,0 +1,67 @@
+// Taking a line into a sheet. A line ends at `end`, where its byte 10 stands; its rest begins at `at`.
+ghost use Rattle.sheet.specs.Format.{ask, lookup, name, text, with-name};
+ghost use Rattle.sheet.specs.Part.{text-at};
+ghost use Rattle.sheet.specs.Rests.{Locates, Stands};
+ghost use Rattle.sheet.specs.View.{numbered, source, view};
+ghost use Prim.Native.Nat.{_≤_};
+ghost use lib.ListN.{drop, length, take};
+ghost use mathlib.Core.Path.{_≡_};
+use super::Sheet;
+use crate::extent::Extent;
+use crate::number::read_number;
+use crate::quote::QUOTE;
+use crate::quote::byte_at;
+use crate::rest::read_text;
+use base::Cause;
+use base::NameId;
+
+impl<'a> Sheet<'a> {
+    // The text that is the whole rest of the line.
+    fn text_in(&self, at: usize, end: usize) -> Result<Extent, Cause>
+        requires { ⌜ end ≤ length (source (now self)) ⌝ }
+        ensures { λ r. ⌜ Locates (source (now (self .entry))) (text (drop at (take end (source (now (self .entry)))))) r ⌝ }
+    {
+        let bytes = self.bytes;
+        read_text(&bytes[0..end], at)
+    }
+
+    // The number of the name that is the same as the text at an extent.
+    fn number_of(&self, at: Extent) -> Option<NameId>
+        requires { ⌜ Stands (source (now self)) at ⌝ }
+        ensures { λ r. ⌜ r ≡ numbered (lookup (view (now (self .entry)) .names) (text-at (source (now (self .entry))) at) 0) ⌝ }
+    {
+        let bytes = self.bytes;
+        let Extent { begin, end } = at;
+        self.find(&bytes[begin..end])
+    }
+
+    // An ask: a quoted name, which stands for its number, or a number.
+    fn ask_in(&self, at: usize, end: usize) -> Result<i32, Cause>
+        requires inside { ⌜ end ≤ length (source (now self)) ⌝ }
+        requires behind { ⌜ at ≤ end ⌝ }
+        ensures { λ r. ⌜ r ≡ ask (view (now (self .entry)) .names) (drop at (take end (source (now (self .entry))))) ⌝ }
+    {
+        let bytes = self.bytes;
+        let line = &bytes[0..end];
+        if byte_at(line, at) != QUOTE {
+            return read_number(&line[at..]).ok_or(Cause::BadNumber);
+        }
+        let name = self.text_in(at, end)?;
+        match self.number_of(name) {
+            Some(n) => Ok(i32::from(n.0)),
+            None => Err(Cause::NameUnknown),
+        }
+    }
+
+    // A name that is not there yet.
+    fn name_in(&self, at: usize, end: usize) -> Result<Extent, Cause>
+        requires { ⌜ end ≤ length (source (now self)) ⌝ }
+        ensures { λ r. ⌜ Locates (source (now (self .entry))) (name (view (now (self .entry)) .names) (drop at (take end (source (now (self .entry)))))) r ⌝ }
+    {
+        let name = self.text_in(at, end)?;
+        match self.number_of(name) {
+            Some(_) => Err(Cause::NameTwice),
+            None => Ok(name),
+        }
+    }
+}
