@@ -4,6 +4,7 @@ use mathlib.Core.Bool.{Bool, true, false, cond, _&&_}
 use Prim.Native.Nat.{ℕ}
 use lib.Dec.{eqb}
 use lib.Chars.{codes}
+use lib.ListN.{length}
 use Rattle.std.specs.declared.option.Option.{Option}
 use Rattle.std.specs.declared.option.Option.the-variants.{Some, None}
 use Rattle.sheet.specs.declared.line.Key.{Key}
@@ -21,11 +22,14 @@ starts [] line = true
 starts (c ∷ cs) [] = false
 starts (c ∷ cs) (b ∷ bs) = eqb b c && starts cs bs
 
--- the key that a line begins with, and how long it is: no key is the front of another
+-- the first of the keys that a line begins with, and how long it is
+abbrev pub first-key : List Key → List ℕ → Option (Key × ℕ)
+first-key [] line = None
+first-key (k ∷ ks) line = cond (starts (key-bytes k) line) (Some (k, length (key-bytes k))) (first-key ks line)
+
+abbrev pub all-keys : List Key
+all-keys = Style ∷ Names ∷ Name ∷ Asks ∷ Ask ∷ []
+
+-- the key that a line begins with: no key is the front of another
 abbrev pub key-of : List ℕ → Option (Key × ℕ)
-key-of line =
-  cond (starts (codes "style=") line) (Some (Style, 6))
-  (cond (starts (codes "names=") line) (Some (Names, 6))
-  (cond (starts (codes "name=") line) (Some (Name, 5))
-  (cond (starts (codes "asks=") line) (Some (Asks, 5))
-  (cond (starts (codes "ask=") line) (Some (Ask, 4)) None))))
+key-of line = first-key all-keys line

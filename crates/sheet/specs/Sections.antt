@@ -38,22 +38,18 @@ outcome Asks c p = name-lines c zero p
 outcome (Ask more) c p = ask-lines c (suc more) p
 outcome End c p = ask-lines c zero p
 
--- the section and the contents after a line whose rest was read
-abbrev pub then-in : {X : Type 0} → Section → (X → Contents) → Result X Cause → Result (Section × Contents) Cause
-then-in s f (Ok x) = Ok (s, f x)
-then-in s f (Err cause) = Err cause
-
-abbrev pub then-to : Contents → (ℕ → Section) → Result ℕ Cause → Result (Section × Contents) Cause
-then-to c f (Ok n) = Ok (f n, c)
-then-to c f (Err cause) = Err cause
+-- the section and the contents that a rest leads to
+abbrev pub leads : {X : Type 0} → (X → Section) → (X → Contents) → Result X Cause → Result (Section × Contents) Cause
+leads to says (Ok x) = Ok (to x, says x)
+leads to says (Err cause) = Err cause
 
 -- the rest of a line of the key that a section wants
 abbrev pub says : Section → Contents → List ℕ → Result (Section × Contents) Cause
-says Style c rest = then-in Names (with-style c) (text rest)
-says Names c rest = then-to c names-left (count rest)
-says (Name more) c rest = then-in (names-left more) (with-name c) (name (c .names) rest)
-says Asks c rest = then-to c asks-left (count rest)
-says (Ask more) c rest = then-in (asks-left more) (with-ask c) (ask (c .names) rest)
+says Style c rest = leads (λ _. Names) (with-style c) (text rest)
+says Names c rest = leads names-left (λ _. c) (count rest)
+says (Name more) c rest = leads (λ _. names-left more) (with-name c) (name (c .names) rest)
+says Asks c rest = leads asks-left (λ _. c) (count rest)
+says (Ask more) c rest = leads (λ _. asks-left more) (with-ask c) (ask (c .names) rest)
 says End c rest = Err SheetLine
 
 abbrev pub key-number : Key → ℕ
@@ -84,3 +80,17 @@ Roomy (Name more) c = (length (c .names) + more < 128) × (length (c .asks) ≡ 
 Roomy Asks c = length (c .asks) ≡ 0
 Roomy (Ask more) c = length (c .asks) + more < 128
 Roomy End c = Unit {0}
+
+-- the section that was answered, beside the contents that were left
+abbrev pub moved : Result Section Cause → Contents → Result (Section × Contents) Cause
+moved (Ok s) c = Ok (s, c)
+moved (Err cause) c = Err cause
+
+-- nothing is to come but the end
+abbrev pub is-last : Section → Bool
+is-last Style = false
+is-last Names = false
+is-last (Name more) = false
+is-last Asks = false
+is-last (Ask more) = false
+is-last End = true

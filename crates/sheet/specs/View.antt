@@ -5,6 +5,9 @@ use denote.Ref.{now}
 use lib.ListN.{take}
 use Rattle.std.specs.declared.option.Option.{Option}
 use Rattle.std.specs.declared.option.Option.the-variants.{Some, None}
+use Rattle.std.specs.declared.result.Result.{Result}
+use Rattle.std.specs.declared.result.Result.the-variants.{Ok, Err}
+use Rattle.base.specs.declared.refusal.Refusal.{Refusal}
 use Rattle.base.specs.declared.ids.NameId.{NameId}
 use Rattle.sheet.specs.declared.extent.Extent.{Extent}
 use Rattle.sheet.specs.declared.sheet.Sheet.{Sheet}
@@ -33,3 +36,8 @@ view s = record {
 abbrev pub numbered : Option ℕ → Option NameId
 numbered (Some i) = Some (record { 0 = i })
 numbered None = None
+
+-- what was read, or why it was refused
+abbrev pub contents : Result Sheet Refusal → Result Contents Refusal
+contents (Ok s) = Ok (view s)
+contents (Err e) = Err e

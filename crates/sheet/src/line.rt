@@ -1,5 +1,5 @@
 // The lines of a sheet: where one ends, and which key it begins with.
-ghost use Rattle.sheet.specs.Ends.{Within, cut-at};
+ghost use Rattle.sheet.specs.Ends.{Heads, Within, cut-at};
 ghost use Rattle.sheet.specs.Format.{cut};
 ghost use Rattle.sheet.specs.Keys.{key-of};
 ghost use lib.ListN.{drop};
@@ -41,4 +41,13 @@ pub(crate) fn read_key(line: &[u8]) -> Option<(Key, usize)>
         [b'a', b's', b'k', b'=', ..] => Some((Key::Ask, 4)),
         _ => None,
     }
+}
+
+// The key of the line at a place, where its rest begins, and where its byte 10 stands.
+pub(crate) fn read_head(bytes: &[u8], place: usize) -> Option<(Key, usize, usize)>
+    ensures { λ r. ⌜ Heads (now (bytes .entry)) place r ⌝ }
+{
+    let end = line_end(bytes, place)?;
+    let (key, size) = read_key(&bytes[place..end])?;
+    Some((key, place + size, end))
 }

@@ -1,5 +1,5 @@
 // Which line of a sheet comes next.
-ghost use Rattle.sheet.specs.Sections.{asks-left, names-left};
+ghost use Rattle.sheet.specs.Sections.{asks-left, is-last, names-left};
 ghost use mathlib.Core.Path.{_≡_};
 
 // A section of lines names how many more of its kind come behind the next one.
@@ -11,6 +11,15 @@ pub(crate) enum Section {
     Asks,
     Ask(u8),
     End,
+}
+
+impl Section {
+    // Nothing is to come but the end.
+    pub(crate) fn is_last(self) -> bool
+        ensures { λ r. ⌜ r ≡ is-last self ⌝ }
+    {
+        matches!(self, Section::End)
+    }
 }
 
 // So many names are to come, and then the asks.

@@ -11,6 +11,7 @@ use crate::extent::Extent;
 mod fill;
 mod line;
 mod query;
+mod read;
 
 // At most 128 names, and as many asks.
 pub(crate) const MOST: usize = 128;

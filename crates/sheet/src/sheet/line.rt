@@ -1,17 +1,24 @@
 // Taking a line into a sheet. A line ends at `end`, where its byte 10 stands; its rest begins at `at`.
-ghost use Rattle.sheet.specs.Format.{ask, lookup, name, text, with-name};
+ghost use Rattle.sheet.specs.Format.{ask, count, lookup, name, text};
 ghost use Rattle.sheet.specs.Part.{text-at};
 ghost use Rattle.sheet.specs.Rests.{Locates, Stands};
+ghost use Rattle.sheet.specs.Sections.{Roomy, judged-line, moved};
 ghost use Rattle.sheet.specs.View.{numbered, source, view};
+ghost use Rattle.std.specs.Vec.{made};
 ghost use Prim.Native.Nat.{_≤_};
 ghost use lib.ListN.{drop, length, take};
 ghost use mathlib.Core.Path.{_≡_};
 use super::Sheet;
 use crate::extent::Extent;
+use crate::line::Key;
 use crate::number::read_number;
 use crate::quote::QUOTE;
 use crate::quote::byte_at;
+use crate::rest::read_count;
 use crate::rest::read_text;
+use crate::section::Section;
+use crate::section::asks_left;
+use crate::section::names_left;
 use base::Cause;
 use base::NameId;
 
@@ -62,6 +69,54 @@ impl<'a> Sheet<'a> {
         match self.number_of(name) {
             Some(_) => Err(Cause::NameTwice),
             None => Ok(name),
+        }
+    }
+    // A count of lines.
+    fn count_in(&self, at: usize, end: usize) -> Result<u8, Cause>
+        requires inside { ⌜ end ≤ length (source (now self)) ⌝ }
+        requires behind { ⌜ at ≤ end ⌝ }
+        ensures { λ r. ⌜ r ≡ count (drop at (take end (source (now (self .entry))))) ⌝ }
+    {
+        let bytes = self.bytes;
+        let line = &bytes[0..end];
+        read_count(&line[at..])
+    }
+
+    // Takes a line in by the section that is reached and the line's key; answers the section that
+    // comes next.
+    pub(crate) fn take_line(&mut self, section: Section, key: Key, at: usize, end: usize) -> Result<Section, Cause>
+        requires inside { ⌜ end ≤ length (source (now self)) ⌝ }
+        requires behind { ⌜ at ≤ end ⌝ }
+        requires room { ⌜ Roomy section (view (now self)) ⌝ }
+        ensures says { λ r. ⌜ moved r (view (now (self .exit))) ≡ judged-line section key (view (now (self .entry))) (drop at (take end (source (now (self .entry))))) ⌝ }
+        ensures from { λ _. ⌜ source (now (self .exit)) ≡ source (now (self .entry)) ⌝ }
+        ensures roomy { λ r. ⌜ made r (λ s. Roomy s (view (now (self .exit)))) ⌝ }
+    {
+        match (section, key) {
+            (Section::Style, Key::Style) => {
+                let style = self.text_in(at, end)?;
+                self.set_style(style);
+                Ok(Section::Names)
+            }
+            (Section::Names, Key::Names) => {
+                let names = self.count_in(at, end)?;
+                Ok(names_left(names))
+            }
+            (Section::Name(more), Key::Name) => {
+                let name = self.name_in(at, end)?;
+                self.add_name(name);
+                Ok(names_left(more))
+            }
+            (Section::Asks, Key::Asks) => {
+                let asks = self.count_in(at, end)?;
+                Ok(asks_left(asks))
+            }
+            (Section::Ask(more), Key::Ask) => {
+                let answer = self.ask_in(at, end)?;
+                self.add_ask(answer);
+                Ok(asks_left(more))
+            }
+            _ => Err(Cause::SheetLine),
         }
     }
 }
