@@ -12,3 +12,5 @@ pub use ids::NameId;
 pub use ids::TableId;
 pub use refusal::Cause;
 pub use refusal::Refusal;
+pub use refusal::RefusalDebug;
+pub use refusal::RefusalPartialEq;

@@ -18,7 +18,7 @@ use Rattle.base.specs.declared.refusal.Cause.{Cause}
 use Rattle.base.specs.declared.refusal.Cause.the-variants.{BadNumber, NameTwice, NameUnknown}
 use Rattle.sheet.specs.Format.{lookup, unless-known, new, known, asked, figure, ask, text}
 use Rattle.sheet.specs.Number.{number}
-use Rattle.sheet.specs.View.{numbered}
+use Rattle.sheet.specs.Lookup.{numbered}
 
 numbered-some : (o : Option ℕ) (n : NameId) → Some n ≡ numbered o → o ≡ Some (n .0)
 numbered-some (Some i) n e = let z : n ≡ record { 0 = i } = cc in ap (λ m. Some (m .0)) (sym z)

@@ -11,7 +11,7 @@ use Rattle.std.specs.declared.option.Option.{Option}
 use Rattle.std.specs.declared.option.Option.the-variants.{Some, None}
 use Rattle.std.specs.declared.result.Result.{Result}
 use Rattle.std.specs.declared.result.Result.the-variants.{Ok, Err}
-use Rattle.std.proofs.shelf.Lists.{drop-drop, drop-take, take-at, take-take, length-take-le}
+use Rattle.std.proofs.shelf.Lists.{drop-drop, drop-take, take-at, take-take, length-take}
 use Rattle.std.proofs.shelf.Tests.{eq-eqb, ne-eqb, cond-true, cond-false, cases-eq, cases-lt}
 use Rattle.base.specs.declared.refusal.Cause.{Cause}
 use Rattle.base.specs.declared.refusal.Cause.the-variants.{BadText}
@@ -78,12 +78,11 @@ module _ (bytes : List ℕ) (at b e p : ℕ) (h : Ok (b, e, p) ≡ extent at (un
   text-is : text-at bytes (record { begin = b; end = e }) ≡ name .is
   text-is = ap (single false) part-is ∙ single-inner (name .is)
 
+  pub inside : e ≤ length bytes
+  inside = omega (arith, name .ends, long)
+
   pub stands : Stands bytes (record { begin = b; end = e })
-  stands = record {
-    inside = (omega (arith, name .begins, name .ends), omega (arith, name .begins, name .ends, long));
-    written = part-is ∙ ap inner (sym text-is);
-    is-text = ap good text-is ∙ begun .0;
-  }
+  stands = part-is ∙ ap inner (sym text-is)
 
   pub whole-rest : p ≡ length bytes → text (drop at bytes) ≡ Ok (text-at bytes (record { begin = b; end = e }))
   whole-rest all =
@@ -99,31 +98,23 @@ module _ (bytes : List ℕ) (at b e p : ℕ) (h : Ok (b, e, p) ≡ extent at (un
 pub no-text : (bytes : List ℕ) (at : ℕ) (x : Refusal) → Err x ≡ extent at (unquoted (drop at bytes)) → text (drop at bytes) ≡ Err BadText
 no-text bytes at x h = ap (whole (drop at bytes)) (none-located at x (unquoted (drop at bytes)) h)
 
--- what stands in a front of the bytes stands in the bytes
-module _ (bytes : List ℕ) (end : ℕ) (within : end ≤ length bytes) where
+-- what ends in a front of the bytes stands in the bytes
+module _ (bytes : List ℕ) (end : ℕ) where
   part-front : (e : Extent) → e .end ≤ end → part (take end bytes) e ≡ part bytes e
   part-front e h =
-      let split : e .begin + (e .end - e .begin) ≤ end ⊎ (e .end - e .begin ≡ 0) =
-        elim (cases-lt (e .begin) (e .end)) [ inl l ↦ inl (omega arith) | inr m ↦ inr (omega arith) ] in
-      elim split [
+      elim (cases-lt (e .begin) (e .end)) [
         inl l ↦
+          let far : e .begin + (e .end - e .begin) ≤ end = omega arith in
           sym (drop-take (e .begin) (e .end - e .begin) (take end bytes))
-          ∙ ap (drop (e .begin)) (take-take (e .begin + (e .end - e .begin)) end bytes l)
+          ∙ ap (drop (e .begin)) (take-take (e .begin + (e .end - e .begin)) end bytes far)
           ∙ drop-take (e .begin) (e .end - e .begin) bytes
-      | inr none ↦ ap (λ n. take n (drop (e .begin) (take end bytes))) none ∙ sym (ap (λ n. take n (drop (e .begin) bytes)) none) ]
-
-  pub stands-behind : (e : Extent) → Stands (take end bytes) e → Stands bytes e
-  stands-behind e s =
-      let far : e .end ≤ end = omega (arith, s .inside .1, length-take-le end bytes within) in
-      let same = part-front e far in
-      record {
-        inside = (s .inside .0, omega arith);
-        written = sym same ∙ s .written ∙ ap (λ l. inner (single false l)) same;
-        is-text = ap (λ l. good (single false l)) (sym same) ∙ s .is-text;
-      }
+      | inr m ↦
+          let none : e .end - e .begin ≡ 0 = omega arith in
+          ap (λ n. take n (drop (e .begin) (take end bytes))) none ∙ sym (ap (λ n. take n (drop (e .begin) bytes)) none) ]
 
   pub locates-behind : (verdict : Result (List ℕ) Cause) (r : Result Extent Cause) → Locates (take end bytes) verdict r → Locates bytes verdict r
   locates-behind verdict (Ok e) h =
-      let far : e .end ≤ end = omega (arith, h .1 .inside .1, length-take-le end bytes within) in
-      (h .0 ∙ ap (λ l. Ok (single false l)) (part-front e far), stands-behind e (h .1))
+      let long = length-take end bytes in
+      let same = part-front e (omega (arith, h .1)) in
+      (h .0 ∙ ap (λ l. Ok (single false l)) same, omega (arith, h .1), sym same ∙ h .2 ∙ ap (λ l. inner (single false l)) same)
   locates-behind verdict (Err cause) h = h

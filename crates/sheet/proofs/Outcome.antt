@@ -2,31 +2,33 @@
 use mathlib.Core.Path.{_≡_, refl, sym, ap, subst, _∙_}
 use mathlib.Core.List.{List, [], _∷_}
 use mathlib.Core.Bool.{Bool, true, false, cond}
-use Prim.Native.Nat.{ℕ, zero, suc, _+_, _-_}
+use Prim.Native.Nat.{ℕ, zero, suc, _+_, _-_, _≤_, _<_}
 use native.Mathlib.Omega.{arith}
 use borrow.Author.Needs.{needs}
 use lib.Dec.{eqb}
 use lib.IntN.{ℤ}
-use lib.ListN.{length, take, drop}
+use lib.ListN.{length, take, drop, length-drop}
 use Rattle.std.specs.declared.option.Option.{Option}
 use Rattle.std.specs.declared.option.Option.the-variants.{Some, None}
 use Rattle.std.specs.declared.result.Result.{Result}
 use Rattle.std.specs.declared.result.Result.the-variants.{Ok, Err}
-use Rattle.std.proofs.shelf.Tests.{both-ways, eqb-true, eqb-false, eq-eqb, cond-true, cond-false}
+use Rattle.std.proofs.shelf.Tests.{both-ways, eqb-true, eqb-false, eq-eqb, ne-eqb, cond-true, cond-false}
 use Rattle.base.specs.declared.refusal.Cause.{Cause}
 use Rattle.base.specs.declared.refusal.Cause.the-variants.{SheetLine}
 use Rattle.base.specs.declared.refusal.Refusal.{Refusal}
 use Rattle.base.specs.Refusals.{refused}
 use Rattle.sheet.specs.declared.line.Key.{Key}
 use Rattle.sheet.specs.declared.line.Key.the-variants as key
+use Rattle.sheet.specs.declared.sheet.Sheet.{Sheet}
 use Rattle.sheet.specs.declared.section.Section.{Section}
 use Rattle.sheet.specs.declared.section.Section.the-variants.{Style, Names, Name, Asks, Ask, End}
-use Rattle.sheet.specs.Format.{Contents, Place, _>>=_, behind, cut, judged, keyed, ended, line, text, count, name, ask, with-name, with-ask, names-line, name-lines, ask-lines}
+use Rattle.sheet.specs.Format.{Contents, Place, _>>=_, behind, cut, judged, keyed, ended, line, text, count, name, ask, with-name, with-ask, names-line, name-lines, ask-lines, titled, sheet-of}
 use Rattle.sheet.specs.Keys.{key-bytes}
 use Rattle.sheet.specs.Ends.{Head, Keyless}
-use Rattle.sheet.specs.Sections.{with-style, names-left, asks-left, outcome, leads, says, key-number, wanted-number, judged-line, is-last}
+use Rattle.sheet.specs.Sections.{with-style, names-left, asks-left, outcome, leads, says, key-number, wanted-number, judged-line, is-last, Roomy}
+use Rattle.sheet.specs.View.{source, view, Well-written}
 
-pub names-next : (n : ℕ) (c : Contents) (p : Place) → name-lines c n p ≡ outcome (names-left n) c p
+names-next : (n : ℕ) (c : Contents) (p : Place) → name-lines c n p ≡ outcome (names-left n) c p
 names-next zero c p = refl
 names-next (suc n) c p = refl
 
@@ -160,3 +162,62 @@ module _ (s : Section) (c : Contents) (o : is-last s ≡ false) (n : ℕ) (bytes
           let q : SheetLine ≡ cause = cc in
           section-keyless s c o n (drop place bytes) whole (drop (end + 1) bytes) (h .line) (clashing (key-bytes k) (key-bytes (wanted s)) whole rest (other-key k s o is) (h .rest))
           ∙ ap (λ y. refused y n) q
+
+-- where the reading stands, and that the rest makes of it what the whole sheet says
+pub record Reading-on (bytes : List ℕ) (s : Section) (sheet : Sheet) (place n : ℕ) : Type 0 where
+  pub ahead : sheet-of bytes ≡ outcome s (view sheet) (record { line = n; left = drop place bytes })
+  pub from : source sheet ≡ bytes
+  pub well : Well-written sheet
+  pub room : Roomy s (view sheet)
+  pub inside : place ≤ length bytes
+  pub counted : n ≤ place + 1
+
+pub nothing-read : (bytes : List ℕ) (sheet : Sheet) → view sheet ≡ titled [] → source sheet ≡ bytes → Well-written sheet → Reading-on bytes Style sheet 0 1
+nothing-read bytes sheet empty from well = record {
+  ahead = ap (λ c. outcome Style c (record { line = 1; left = bytes })) (sym empty);
+  from = from;
+  well = well;
+  room = subst (Roomy Style) (sym empty) (refl, refl);
+  inside = omega arith;
+  counted = omega arith;
+}
+
+module _ (bytes : List ℕ) (s : Section) (sheet : Sheet) (place n : ℕ) (inv : Reading-on bytes s sheet place n) where
+  module _ (o : is-last s ≡ false) where
+    pub stopped-headless : ((k : Key) → Keyless (key-bytes k) (cut (drop place bytes))) → refused SheetLine n ≡ sheet-of bytes
+    stopped-headless none = sym (inv .ahead ∙ headless s (view sheet) o n (drop place bytes) none)
+
+    module _ (k : Key) (at end : ℕ) (h : Head bytes place k at end) where
+      pub stopped-at : (cause : Cause) → Err cause ≡ judged-line s k (view sheet) (drop at (take end (source sheet))) → refused cause n ≡ sheet-of bytes
+      stopped-at cause e =
+          sym (inv .ahead ∙ taken-off s (view sheet) o n bytes place k at end h cause (ap (λ l. judged-line s k (view sheet) (drop at (take end l))) (sym (inv .from)) ∙ sym e))
+
+      pub one-read : (t : Section) (next : Sheet) → Ok (t, view next) ≡ judged-line s k (view sheet) (drop at (take end (source sheet))) → source next ≡ source sheet → Well-written next → Roomy t (view next) → Reading-on bytes t next (end + 1) (n + 1)
+      one-read t next e from well room = record {
+        ahead = inv .ahead ∙ taken-on s (view sheet) o n bytes place k at end h t (view next) (ap (λ l. judged-line s k (view sheet) (drop at (take end l))) (sym (inv .from)) ∙ sym e);
+        from = from ∙ inv .from;
+        well = well;
+        room = room;
+        inside = omega (arith, h .inside);
+        counted = omega (arith, inv .counted, h .on, h .within);
+      }
+
+  end-is : is-last s ≡ true → s ≡ End
+  end-is e = go s e
+    where
+      go : (t : Section) → is-last t ≡ true → t ≡ End
+      go Style e = absurd (both-ways false refl e)
+      go Names e = absurd (both-ways false refl e)
+      go (Name m) e = absurd (both-ways false refl e)
+      go Asks e = absurd (both-ways false refl e)
+      go (Ask m) e = absurd (both-ways false refl e)
+      go End e = refl
+
+  at-end : is-last s ≡ true → sheet-of bytes ≡ cond (eqb (length (drop place bytes)) 0) (Ok (view sheet)) (refused SheetLine n)
+  at-end e = inv .ahead ∙ ap (λ t. outcome t (view sheet) (record { line = n; left = drop place bytes })) (end-is e)
+
+  pub more-left : is-last s ≡ true → place < length bytes → refused SheetLine n ≡ sheet-of bytes
+  more-left e h = sym (at-end e ∙ cond-false _ _ _ (ne-eqb (length (drop place bytes)) 0 (λ z. omega (arith, length-drop place bytes))))
+
+  pub all-read : is-last s ≡ true → length bytes ≤ place → Ok (view sheet) ≡ sheet-of bytes
+  all-read e h = sym (at-end e ∙ cond-true _ _ _ (eq-eqb (length (drop place bytes)) 0 (omega (arith, length-drop place bytes))))

@@ -6,25 +6,27 @@ use mathlib.Core.Bool.{Bool, true, false, cond, _&&_}
 use Prim.Native.Nat.{ℕ, _+_, _-_, _*_, _<_, _≤_}
 use native.Mathlib.Omega.{arith}
 use lib.Dec.{leb}
-use lib.ListN.{length, take, drop}
+use lib.ListN.{length, take, drop, length-append}
 use Rattle.std.specs.declared.option.Option.the-variants.{None}
 use Rattle.std.specs.declared.result.Result.{Result}
 use Rattle.std.specs.declared.result.Result.the-variants.{Ok, Err}
 use Rattle.std.proofs.shelf.Lists.{take-at}
-use Rattle.std.proofs.shelf.Tests.{leb-true, le-leb, and-parts, cases-bool, cond-true}
+use Rattle.std.proofs.shelf.Tests.{leb-true, le-leb, and-parts, cases-eq, cases-bool, cond-true, cond-false}
 use Rattle.base.specs.declared.refusal.Refusal.{Refusal}
 use Rattle.lines.specs.Overlay.{room, overlaid}
-use Rattle.sheet.specs.declared.sheet.Sheet.{Sheet}
-use Rattle.sheet.specs.Text.{good, all-printable, inner, quoted}
+use Rattle.sheet.specs.Text.{good, all-printable, letter, inner, quoted}
 use Rattle.sheet.specs.Quoted.{written}
+use Rattle.sheet.specs.Part.{single}
 use Rattle.sheet.specs.Format.{lookup}
-use Rattle.sheet.specs.View.{view, written-names}
-use Rattle.sheet.proofs.Writing.{letters, quoted-size}
-use Rattle.sheet.proofs.Looking.{lookup-inner, lookup-bad, letters-twice}
-use Rattle.sheet.proofs.Viewing.{written-as, texts-are}
+use Rattle.sheet.specs.Lookup.{number-of}
+use Rattle.sheet.proofs.Writing.{one, two, letters, quoted-size}
+use Rattle.sheet.proofs.Locating.{single-inner}
 
-pub found-plain : (s : Sheet) (t : List ℕ) → lookup (written-names s) (inner t) 0 ≡ lookup (view s .names) t 0
-found-plain s t = ap (λ ns. lookup ns (inner t) 0) (written-as s) ∙ lookup-inner (view s .names) t 0
+pub found-plain : (names : List (List ℕ)) (t : List ℕ) → good t ≡ true → lookup names (single false (inner t)) 0 ≡ number-of names t
+found-plain names t is = ap (λ l. lookup names l 0) (single-inner t) ∙ sym (cond-true _ _ _ is)
+
+pub found-none : (names : List (List ℕ)) (t : List ℕ) → good t ≡ false → None ≡ number-of names t
+found-none names t bad = sym (cond-false _ _ _ bad)
 
 -- what stands between the outer quotes that were written
 pub between-quotes : (t old : List ℕ) (n : ℕ) → n ≡ length (quoted t) → take (n - 1 - 1) (drop 1 (overlaid (quoted t) old)) ≡ inner t
@@ -32,6 +34,14 @@ between-quotes t old n is =
     let size : n - 1 - 1 ≡ letters t = omega (arith, is, quoted-size t) in
     (λ i. take (size i) (append-assoc (inner t) (34 ∷ []) (drop (length (quoted t)) old) i))
     ∙ take-at (inner t) (34 ∷ drop (length (quoted t)) old) (letters t) refl
+
+-- a quoted text takes at most 66 bytes
+letter-two : (c : ℕ) → length (letter c) ≤ 2
+letter-two c = elim (cases-eq c 34) [ inl q ↦ omega (arith, ap length (two c q)) | inr o ↦ omega (arith, ap length (one c o)) ]
+
+letters-twice : (t : List ℕ) → letters t ≤ 2 * length t
+letters-twice [] = omega arith
+letters-twice (c ∷ t) = omega (arith, length-append (letter c) (inner t), letter-two c, letters-twice t)
 
 -- a text that is refused where there is room for every text is none
 pub refused-bad : (tail t : List ℕ) (x : Refusal) → length tail ≡ 66 → Err x ≡ written tail t → good t ≡ false
@@ -46,6 +56,3 @@ refused-bad tail t x long e = elim (cases-bool (good t)) [ inl is ↦ absurd (ne
     differ r n a b = let z : _≡_ {A = ℕ} 0 1 = cc in omega arith
     never : written tail t ≡ Ok (length (quoted t)) → ⊥
     never ok = differ (written tail t) (length (quoted t)) e ok
-
-pub lookup-none : (s : Sheet) (t : List ℕ) → good t ≡ false → None ≡ lookup (view s .names) t 0
-lookup-none s t bad = sym (lookup-bad (view s .names) t 0 (texts-are s) bad)

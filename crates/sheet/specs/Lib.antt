@@ -9,5 +9,6 @@ pub mod Keys
 pub mod Ends
 pub mod Part
 pub mod View
+pub mod Lookup
 pub mod Rests
 pub mod Sections

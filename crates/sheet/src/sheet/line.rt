@@ -1,15 +1,17 @@
 // Taking a line into a sheet. A line ends at `end`, where its byte 10 stands; its rest begins at `at`.
 ghost use Rattle.sheet.specs.Format.{ask, count, lookup, name, text};
+ghost use Rattle.sheet.specs.Lookup.{numbered};
 ghost use Rattle.sheet.specs.Part.{text-at};
-ghost use Rattle.sheet.specs.Rests.{Locates, Stands};
+ghost use Rattle.sheet.specs.Rests.{Locates};
 ghost use Rattle.sheet.specs.Sections.{Roomy, judged-line, moved};
-ghost use Rattle.sheet.specs.View.{numbered, source, view};
+ghost use Rattle.sheet.specs.View.{Well-written, source, view};
 ghost use Rattle.std.specs.Vec.{made};
 ghost use Prim.Native.Nat.{_≤_};
 ghost use lib.ListN.{drop, length, take};
 ghost use mathlib.Core.Path.{_≡_};
 use super::Sheet;
 use crate::extent::Extent;
+use crate::extent::part_of;
 use crate::line::Key;
 use crate::number::read_number;
 use crate::quote::QUOTE;
@@ -34,12 +36,9 @@ impl<'a> Sheet<'a> {
 
     // The number of the name that is the same as the text at an extent.
     fn number_of(&self, at: Extent) -> Option<NameId>
-        requires { ⌜ Stands (source (now self)) at ⌝ }
         ensures { λ r. ⌜ r ≡ numbered (lookup (view (now (self .entry)) .names) (text-at (source (now (self .entry))) at) 0) ⌝ }
     {
-        let bytes = self.bytes;
-        let Extent { begin, end } = at;
-        self.find(&bytes[begin..end])
+        self.find(part_of(self.bytes, at))
     }
 
     // An ask: a quoted name, which stands for its number, or a number.
@@ -87,9 +86,11 @@ impl<'a> Sheet<'a> {
     pub(crate) fn take_line(&mut self, section: Section, key: Key, at: usize, end: usize) -> Result<Section, Cause>
         requires inside { ⌜ end ≤ length (source (now self)) ⌝ }
         requires behind { ⌜ at ≤ end ⌝ }
+        requires well { ⌜ Well-written (now self) ⌝ }
         requires room { ⌜ Roomy section (view (now self)) ⌝ }
         ensures says { λ r. ⌜ moved r (view (now (self .exit))) ≡ judged-line section key (view (now (self .entry))) (drop at (take end (source (now (self .entry))))) ⌝ }
         ensures from { λ _. ⌜ source (now (self .exit)) ≡ source (now (self .entry)) ⌝ }
+        ensures well { λ _. ⌜ Well-written (now (self .exit)) ⌝ }
         ensures roomy { λ r. ⌜ made r (λ s. Roomy s (view (now (self .exit)))) ⌝ }
     {
         match (section, key) {

@@ -1,15 +1,19 @@
 // What a sheet answers.
 ghost use Rattle.sheet.specs.Format.{lookup};
-ghost use Rattle.sheet.specs.Text.{inner};
-ghost use Rattle.sheet.specs.View.{numbered, view, written-names};
+ghost use Rattle.sheet.specs.Lookup.{number-of, numbered};
+ghost use Rattle.sheet.specs.Part.{single};
+ghost use Rattle.sheet.specs.View.{view, written-names, written-style};
 ghost use Rattle.std.specs.Options.{mapped};
 ghost use Rattle.std.specs.shelf.Maps.{nth};
+ghost use Prim.Native.Nat.{_≤_};
 ghost use lib.ListN.{length};
+ghost use mathlib.Core.Bool.{false};
 ghost use mathlib.Core.Path.{_≡_};
+use super::MOST;
 use super::Sheet;
-use crate::extent::Extent;
+use crate::extent::part_of;
 use crate::quote::write_quoted;
-use crate::same::same_text;
+use crate::same::same_written;
 use base::NameId;
 
 // 32 quotes take two bytes each, between the outer ones.
@@ -18,42 +22,42 @@ const LONGEST_QUOTED: usize = 66;
 impl<'a> Sheet<'a> {
     // The style as it is written inside its outer quotes.
     pub fn style(&self) -> &'a [u8]
-        ensures { λ r. ⌜ now r ≡ inner (view (now (self .entry)) .style) ⌝ }
+        ensures { λ r. ⌜ now r ≡ written-style (now (self .entry)) ⌝ }
     {
-        let Extent { begin, end } = self.style;
-        &self.bytes[begin..end]
+        part_of(self.bytes, self.style)
     }
 
     // How many names there are.
     pub fn name_count(&self) -> usize
-        ensures { λ r. ⌜ r ≡ length (view (now (self .entry)) .names) ⌝ }
+        ensures value { λ r. ⌜ r ≡ length (view (now (self .entry)) .names) ⌝ }
+        ensures few { λ r. ⌜ r ≤ 128 ⌝ }
     {
-        self.name_count
+        self.name_count.min(MOST)
     }
 
     // A name as it is written inside its outer quotes; none past the last.
     pub fn name(&self, n: NameId) -> Option<&'a [u8]>
-        ensures { λ r. ⌜ mapped now r ≡ mapped inner (nth (view (now (self .entry)) .names) (n .0)) ⌝ }
+        ensures { λ r. ⌜ mapped now r ≡ nth (written-names (now (self .entry))) (n .0) ⌝ }
     {
         let i = usize::from(n.0);
-        if i >= self.name_count {
-            return None;
+        if i < self.name_count() {
+            Some(part_of(self.bytes, self.names[i]))
+        } else {
+            None
         }
-        let Extent { begin, end } = self.names[i];
-        Some(&self.bytes[begin..end])
     }
 
     // The asks, each resolved to its number.
     pub fn asks(&self) -> &[i32]
         ensures { λ r. ⌜ now r ≡ view (now (self .entry)) .asks ⌝ }
     {
-        let count = self.ask_count;
+        let count = self.ask_count.min(MOST);
         &self.asks[0..count]
     }
 
     // The number of the name that is the same text; the text is given plain, its quotes single.
     pub fn lookup(&self, text: &[u8]) -> Option<NameId>
-        ensures { λ r. ⌜ r ≡ numbered (lookup (view (now (self .entry)) .names) (now (text .entry)) 0) ⌝ }
+        ensures { λ r. ⌜ r ≡ numbered (number-of (view (now (self .entry)) .names) (now (text .entry))) ⌝ }
     {
         let mut quoted = [0; LONGEST_QUOTED];
         match write_quoted(&mut quoted, text) {
@@ -62,13 +66,12 @@ impl<'a> Sheet<'a> {
         }
     }
 
-    // The number of the name whose written form is the same as this one.
+    // The number of the name that is the same as a text in its written form.
     pub(crate) fn find(&self, written: &[u8]) -> Option<NameId>
-        ensures { λ r. ⌜ r ≡ numbered (lookup (written-names (now (self .entry))) (now (written .entry)) 0) ⌝ }
+        ensures { λ r. ⌜ r ≡ numbered (lookup (view (now (self .entry)) .names) (single false (now (written .entry))) 0) ⌝ }
     {
-        for i in 0..self.name_count {
-            let Extent { begin, end } = self.names[i];
-            if same_text(&self.bytes[begin..end], written) {
+        for i in 0..self.name_count() {
+            if same_written(part_of(self.bytes, self.names[i]), written) {
                 return Some(NameId(i as u8));
             }
         }

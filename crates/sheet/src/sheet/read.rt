@@ -1,6 +1,6 @@
 // Reading a sheet, line by line.
 ghost use Rattle.sheet.specs.Format.{sheet-of};
-ghost use Rattle.sheet.specs.View.{contents, source};
+ghost use Rattle.sheet.specs.View.{Well-written, contents, source};
 ghost use Rattle.sheet.specs.Written.{Accepts-exactly};
 ghost use Rattle.std.specs.Vec.{made};
 ghost use mathlib.Core.Path.{_≡_};
@@ -16,6 +16,7 @@ impl<'a> Sheet<'a> {
         ensures value { λ r. ⌜ contents r ≡ sheet-of (now (bytes .entry)) ⌝ }
         ensures exactly { λ _. ⌜ Accepts-exactly (now (bytes .entry)) ⌝ }
         ensures from { λ r. ⌜ made r (λ s. source s ≡ now (bytes .entry)) ⌝ }
+        ensures well { λ r. ⌜ made r Well-written ⌝ }
     {
         Sheet::read_lines(bytes)
     }
@@ -24,6 +25,7 @@ impl<'a> Sheet<'a> {
     fn read_lines(bytes: &'a [u8]) -> Result<Sheet<'a>, Refusal>
         ensures value { λ r. ⌜ contents r ≡ sheet-of (now (bytes .entry)) ⌝ }
         ensures from { λ r. ⌜ made r (λ s. source s ≡ now (bytes .entry)) ⌝ }
+        ensures well { λ r. ⌜ made r Well-written ⌝ }
     {
         let mut sheet = Sheet::empty(bytes);
         let mut section = Section::Style;

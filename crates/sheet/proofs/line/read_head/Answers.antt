@@ -1,4 +1,3 @@
-use Rattle.sheet.proofs.Outcome.{names-next}
 use Rattle.sheet.proofs.Keying.{headed}
 use Rattle.sheet.proofs.line.read_head.Needs as need
 

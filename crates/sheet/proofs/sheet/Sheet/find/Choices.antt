@@ -1,8 +1,10 @@
 use mathlib.Core.Path.{_≡_}
+use mathlib.Core.Bool.{false}
 use lib.ListN.{drop}
 use Rattle.sheet.specs.Format.{lookup}
-use Rattle.sheet.specs.View.{written-names}
+use Rattle.sheet.specs.Part.{single}
+use Rattle.sheet.specs.View.{view}
 use Rattle.sheet.proofs.sheet.Sheet.find.Given as given
 
 abbrev pub Inv-loop-i : given.InvT-loop-i
-Inv-loop-i l = lookup (drop (l .i) (written-names (l .self))) (l .written) (l .i) ≡ lookup (written-names (l .self)) (l .written) 0
+Inv-loop-i l = lookup (drop (l .i) (view (l .self) .names)) (single false (l .written)) (l .i) ≡ lookup (view (l .self) .names) (single false (l .written)) 0

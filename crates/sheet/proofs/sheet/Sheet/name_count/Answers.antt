@@ -1,8 +1,11 @@
-use mathlib.Core.Path.{sym}
-use Rattle.sheet.specs.Part.{text-at}
-use Rattle.sheet.specs.View.{source}
-use Rattle.sheet.proofs.Viewing.{filled-length}
+use mathlib.Core.Path.{_≡_, sym, _∙_}
+use native.Mathlib.Omega.{arith}
+use borrow.Author.Needs.{needs}
+use lib.ListN.{length}
+use Rattle.sheet.proofs.Viewing.{count-is}
 use Rattle.sheet.proofs.sheet.Sheet.name_count.Needs as need
 
 pub returns : need.returns
-returns c = sym (filled-length (c .args .self .now) (text-at (source (c .args .self .now))))
+returns c =
+    let wide : length (c .args .self .now .names) ≡ 128 = search needs in
+    record { value = c .min .ensures ∙ sym (count-is (c .args .self .now) wide); few = omega (arith, c .min .ensures) }

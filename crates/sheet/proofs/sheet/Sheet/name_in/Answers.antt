@@ -22,4 +22,5 @@ returns-in-None c = (
   name-new (view (c .args .self .now) .names) (text (drop (c .args .at) (take (c .args .end) (source (c .args .self .now))))) (text-at (source (c .args .self .now)) (c .in-Continue-name .name))
     (c .in-Continue-name .ensures tt .0) (c .in-None .ensures tt),
   c .in-Continue-name .ensures tt .1,
+  c .in-Continue-name .ensures tt .2,
 )

@@ -1,0 +1,10 @@
+use Rattle.sheet.proofs.Formatting.{accepts-exactly}
+use Rattle.sheet.proofs.sheet.Sheet.read.Needs as need
+
+pub returns : need.returns
+returns c = record {
+  value = c .read-lines .ensures .value;
+  exactly = accepts-exactly (c .args .bytes .now);
+  from = c .read-lines .ensures .from;
+  well = c .read-lines .ensures .well;
+}
