@@ -9,6 +9,7 @@ pub mod Keys
 pub mod Ends
 pub mod Part
 pub mod View
+pub mod Lines
 pub mod Lookup
 pub mod Rests
 pub mod Sections

@@ -5,6 +5,7 @@ mod fill;
 mod line;
 mod query;
 mod read;
+mod write;
 
 // At most 128 names, and as many asks.
 pub(crate) const MOST: usize = 128;
