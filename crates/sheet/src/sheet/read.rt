@@ -1,5 +1,6 @@
 // Reading a sheet, line by line.
 ghost use Rattle.sheet.specs.Format.{sheet-of};
+ghost use Rattle.sheet.specs.Lines.{Says-again};
 ghost use Rattle.sheet.specs.View.{Well-written, contents, source};
 ghost use Rattle.sheet.specs.Written.{Accepts-exactly};
 ghost use Rattle.std.specs.Vec.{made};
@@ -17,6 +18,7 @@ impl<'a> Sheet<'a> {
         ensures exactly { λ _. ⌜ Accepts-exactly (now (bytes .entry)) ⌝ }
         ensures from { λ r. ⌜ made r (λ s. source s ≡ now (bytes .entry)) ⌝ }
         ensures well { λ r. ⌜ made r Well-written ⌝ }
+        ensures again { λ r. ⌜ made r Says-again ⌝ }
     {
         Sheet::read_lines(bytes)
     }
