@@ -130,9 +130,7 @@ impl Refusal {
             | Cause::StuckLabel
             | Cause::StuckCounts
             | Cause::BudgetRange => 3,
-            Cause::NoAnswer
-            | Cause::NoPlace
-            | Cause::TapeSize => 4,
+            Cause::NoAnswer | Cause::NoPlace | Cause::TapeSize => 4,
             Cause::SheetLine
             | Cause::BadText
             | Cause::BadNumber

@@ -16,7 +16,11 @@ const LINE_BUFFER: usize = 80;
 const REFUSAL_LINES: usize = 3;
 
 // Prints what was written into the front of the buffer.
-fn print_front(rt: &LibcRuntime, buffer: &[u8], written: Result<usize, Refusal>) -> Result<(), AnyError> {
+fn print_front(
+    rt: &LibcRuntime,
+    buffer: &[u8],
+    written: Result<usize, Refusal>,
+) -> Result<(), AnyError> {
     match written {
         Ok(size) if size <= buffer.len() => rt.stdout().write_all(&buffer[0..size])?,
         _ => return Err("a line is longer than its buffer".into()),

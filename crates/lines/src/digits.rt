@@ -11,7 +11,7 @@ const MOST_DIGITS: usize = 20;
 
 // The digits of a number: the bytes from `start` on, since the last digit is found first.
 #[derive(Drop)]
-pub struct Digits {
+pub(crate) struct Digits {
     bytes: [u8; MOST_DIGITS],
     start: usize,
     ghost inside: { start ≤ 20 },
@@ -19,7 +19,7 @@ pub struct Digits {
 
 impl Digits {
     // The digits of n, with no zero in front, but for 0 itself.
-    pub fn of(n: usize) -> Digits
+    pub(crate) fn of(n: usize) -> Digits
         ensures { λ r. ⌜ drop (r .start) (r .bytes) ≡ decimal n ⌝ }
     {
         let mut bytes = [b'0'; MOST_DIGITS];
@@ -36,7 +36,7 @@ impl Digits {
     }
 
     // The digits alone.
-    pub fn as_slice(&self) -> &[u8]
+    pub(crate) fn as_slice(&self) -> &[u8]
         ensures { λ r. ⌜ now r ≡ drop (now (self .entry) .start) (now (self .entry) .bytes) ⌝ }
     {
         &self.bytes[self.start..]

@@ -45,16 +45,17 @@ parts ds h =
       some = some;
       few = leb-true (length ds) 10 (b .1);
       lead = λ e. elim (and-cases (eqb (getD ds 0 0) 48) (leb 2 (length ds)) (not-true (eqb (getD ds 0 0) 48 && leb 2 (length ds)) (d .0))) [
-          inl f ↦ let z : true ≡ false = sym (eq-eqb (getD ds 0 0) 48 e) ∙ f in let y : _≡_ {A = ℕ} 0 1 = cc in absurd (omega arith)
-        | inr f ↦ omega (arith, some, leb-false 2 (length ds) f) ];
+        | inl f ↦ let z : true ≡ false = sym (eq-eqb (getD ds 0 0) 48 e) ∙ f in let y : _≡_ {A = ℕ} 0 1 = cc in absurd (omega arith)
+        | inr f ↦ omega (arith, some, leb-false 2 (length ds) f)
+      ];
       clean = d .1;
     }
 
 whole : (ds : List ℕ) → Parts ds → numeral ds ≡ true
 whole ds p =
     and-from (leb 1 (length ds) && leb (length ds) 10) _
-      (and-from (leb 1 (length ds)) _ (le-leb 1 (length ds) (p .some)) (le-leb (length ds) 10 (p .few)))
-      (and-from (not (eqb (getD ds 0 0) 48 && leb 2 (length ds))) _ (not-from-false _ (lead (eqb (getD ds 0 0) 48) refl)) (p .clean))
+    (and-from (leb 1 (length ds)) _ (le-leb 1 (length ds) (p .some)) (le-leb (length ds) 10 (p .few)))
+    (and-from (not (eqb (getD ds 0 0) 48 && leb 2 (length ds))) _ (not-from-false _ (lead (eqb (getD ds 0 0) 48) refl)) (p .clean))
   where
     lead : (b : Bool) → eqb (getD ds 0 0) 48 ≡ b → (eqb (getD ds 0 0) 48 && leb 2 (length ds)) ≡ false
     lead true e = and-right (eqb (getD ds 0 0) 48) (leb 2 (length ds)) (lt-leb 2 (length ds) (omega (arith, p .lead (eqb-true (getD ds 0 0) 48 e))))
@@ -70,16 +71,17 @@ naturals ds n = (sound, complete)
         let small : readOn 0 ds < 10 ^ 10 = value-short own ds 10 (p .clean) (p .few) in
         let v = decimal-value own ds (p .clean) (p .some) (p .lead) (omega arith) in
         (sym v ∙ ap decimal (a .1), subst (λ (k : ℕ). k < 10 ^ 10) (a .1) small)
+
     complete : (ds ≡ decimal n) × (n < 10 ^ 10) → natural ds ≡ Some n
     complete h =
         let big : n < 2 ^ 64 = omega (arith, h .1) in
         ap natural (h .0)
         ∙ cond-true _ _ _ (whole (decimal n) (record {
-            some = decimal-some n big;
-            few = length-decimal-le 10 n (omega arith) (h .1) big;
-            lead = λ e. elim (cases-lt 0 n) [ inl more ↦ absurd (omega (arith, first-decimal n more big, e)) | inr none ↦ ap length (decimal-digit n (omega arith)) ];
-            clean = digits-decimal own n big;
-          }))
+          some = decimal-some n big;
+          few = length-decimal-le 10 n (omega arith) (h .1) big;
+          lead = λ e. elim (cases-lt 0 n) [ inl more ↦ absurd (omega (arith, first-decimal n more big, e)) | inr none ↦ ap length (decimal-digit n (omega arith)) ];
+          clean = digits-decimal own n big;
+        }))
         ∙ ap Some (value-decimal own n big)
 
 -- the reader's loop
@@ -143,8 +145,9 @@ number-sound text z e = go (eqb (getD text 0 0) 45) refl e
 
 no-minus : (n : ℕ) → n < 2 ^ 64 → getD (decimal n) 0 0 ≡ 45 → ⊥
 no-minus n big e = elim (cases-lt 0 n) [
-    inl more ↦ omega (arith, first-decimal n more big, e)
-  | inr none ↦ omega (arith, sym e ∙ ap (λ l. getD l 0 0) (decimal-digit n (omega arith))) ]
+  | inl more ↦ omega (arith, first-decimal n more big, e)
+  | inr none ↦ omega (arith, sym e ∙ ap (λ l. getD l 0 0) (decimal-digit n (omega arith)))
+]
 
 number-complete : (text : List ℕ) (z : ℤ) → text ≡ signed z → In-range z → number text ≡ Some z
 number-complete text (pos n) is h =

@@ -30,8 +30,9 @@ use Rattle.sheet.proofs.Trips.{accepted}
 pub single-inner : (t : List ℕ) → single false (inner t) ≡ t
 single-inner [] = refl
 single-inner (c ∷ t) = elim (cases-eq c 34) [
-    inl is ↦ ap (λ l. single false (l ++ inner t)) (two c is) ∙ ap (λ l. 34 ∷ l) (single-inner t) ∙ ap (λ (k : ℕ). k ∷ t) (sym is)
-  | inr other ↦ ap (λ l. single false (l ++ inner t)) (one c other) ∙ ap (λ b. c ∷ single b (inner t)) (ne-eqb c 34 other) ∙ ap (λ l. c ∷ l) (single-inner t) ]
+  | inl is ↦ ap (λ l. single false (l ++ inner t)) (two c is) ∙ ap (λ l. 34 ∷ l) (single-inner t) ∙ ap (λ (k : ℕ). k ∷ t) (sym is)
+  | inr other ↦ ap (λ l. single false (l ++ inner t)) (one c other) ∙ ap (λ b. c ∷ single b (inner t)) (ne-eqb c 34 other) ∙ ap (λ l. c ∷ l) (single-inner t)
+]
 
 -- what an extent says of the text that was read
 record Located (at b e p : ℕ) (r : Option (List ℕ)) : Type 0 where
@@ -103,14 +104,15 @@ module _ (bytes : List ℕ) (end : ℕ) where
   part-front : (e : Extent) → e .end ≤ end → part (take end bytes) e ≡ part bytes e
   part-front e h =
       elim (cases-lt (e .begin) (e .end)) [
-        inl l ↦
-          let far : e .begin + (e .end - e .begin) ≤ end = omega arith in
-          sym (drop-take (e .begin) (e .end - e .begin) (take end bytes))
-          ∙ ap (drop (e .begin)) (take-take (e .begin + (e .end - e .begin)) end bytes far)
-          ∙ drop-take (e .begin) (e .end - e .begin) bytes
-      | inr m ↦
-          let none : e .end - e .begin ≡ 0 = omega arith in
-          ap (λ n. take n (drop (e .begin) (take end bytes))) none ∙ sym (ap (λ n. take n (drop (e .begin) bytes)) none) ]
+        | inl l ↦
+            let far : e .begin + (e .end - e .begin) ≤ end = omega arith in
+            sym (drop-take (e .begin) (e .end - e .begin) (take end bytes))
+            ∙ ap (drop (e .begin)) (take-take (e .begin + (e .end - e .begin)) end bytes far)
+            ∙ drop-take (e .begin) (e .end - e .begin) bytes
+        | inr m ↦
+            let none : e .end - e .begin ≡ 0 = omega arith in
+            ap (λ n. take n (drop (e .begin) (take end bytes))) none ∙ sym (ap (λ n. take n (drop (e .begin) bytes)) none)
+      ]
 
   pub locates-behind : (verdict : Result (List ℕ) Cause) (r : Result Extent Cause) → Locates (take end bytes) verdict r → Locates bytes verdict r
   locates-behind verdict (Ok e) h =

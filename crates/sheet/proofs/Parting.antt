@@ -11,17 +11,19 @@ use Rattle.std.proofs.shelf.Tests.{cases-lt}
 
 pub take-min : {X : Type 0} (bytes : List X) (e : ℕ) → take (min e (length bytes)) bytes ≡ take e bytes
 take-min bytes e = elim (cases-lt (length bytes) e) [
-    inl l ↦
+  | inl l ↦
       let all : length bytes ≡ min e (length bytes) = omega arith in
       take-all (min e (length bytes)) bytes (omega arith) ∙ sym (take-all e bytes (omega arith))
-  | inr m ↦ let same : min e (length bytes) ≡ e = omega arith in ap (λ n. take n bytes) same ]
+  | inr m ↦ let same : min e (length bytes) ≡ e = omega arith in ap (λ n. take n bytes) same
+]
 
 drop-min : (bytes : List ℕ) (b e : ℕ) → drop (min b (min e (length bytes))) (take e bytes) ≡ drop b (take e bytes)
 drop-min bytes b e = elim (cases-lt (min e (length bytes)) b) [
-    inl l ↦
+  | inl l ↦
       drop-all (min b (min e (length bytes))) (take e bytes) (omega (arith, length-take e bytes))
       ∙ sym (drop-all b (take e bytes) (omega (arith, length-take e bytes)))
-  | inr m ↦ let same : min b (min e (length bytes)) ≡ b = omega arith in ap (λ n. drop n (take e bytes)) same ]
+  | inr m ↦ let same : min b (min e (length bytes)) ≡ b = omega arith in ap (λ n. drop n (take e bytes)) same
+]
 
 pub part-clamped : (bytes : List ℕ) (b e end begin : ℕ) → end ≡ min e (length bytes) → begin ≡ min b end → take (end - begin) (drop begin bytes) ≡ take (e - b) (drop b bytes)
 part-clamped bytes b e end begin ends begins =

@@ -52,7 +52,9 @@ refused-bad tail t x long e = elim (cases-bool (good t)) [ inl is ↦ absurd (ne
         let p = and-parts (leb 1 (length t) && leb (length t) 32) (all-printable t) is in
         let few = leb-true (length t) 32 (and-parts (leb 1 (length t)) (leb (length t) 32) (p .0) .1) in
         cond-true _ _ _ (le-leb (length (quoted t)) (length tail) (omega (arith, few, long, quoted-size t, letters-twice t)))
+
     differ : (r : Result ℕ Refusal) (n : ℕ) → Err x ≡ r → r ≡ Ok n → ⊥
     differ r n a b = let z : _≡_ {A = ℕ} 0 1 = cc in omega arith
+
     never : written tail t ≡ Ok (length (quoted t)) → ⊥
     never ok = differ (written tail t) (length (quoted t)) e ok

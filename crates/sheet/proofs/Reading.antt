@@ -121,10 +121,11 @@ module _ (bytes : List ℕ) (at : ℕ) where
         go [] h = refl
         go (x ∷ xs) h = absurd (none x xs h)
 
-    pub closed-full : 34 ≡ getD bytes place 0 → (getD bytes (place + 1) 0 ≡ 34 → ⊥) → (place ≡ at + 1 → ⊥) → extent at (unquoted (drop at bytes)) ≡ Ok (at + 1, place, place + 1)
-    closed-full is other e =
+    pub closed-full : {behind : ℕ} → behind ≡ place + 1 → 34 ≡ getD bytes place 0 → (getD bytes (place + 1) 0 ≡ 34 → ⊥) → (place ≡ at + 1 → ⊥) → extent at (unquoted (drop at bytes)) ≡ Ok (at + 1, place, behind)
+    closed-full {behind} past is other e =
         ap (extent at) (closed is other ∙ go (now .front) (λ h. e (omega (arith, now .ends))))
         ∙ ap (λ (k : ℕ). Ok (at + 1, k, k + 1)) (sym (now .ends))
+        ∙ ap (λ (k : ℕ). Ok (at + 1, place, k)) (sym past)
       where
         go : (xs : List ℕ) → (length (inner xs) ≡ 0 → ⊥) → nonempty (Some xs) ≡ Some xs
         go [] h = absurd (h refl)

@@ -64,7 +64,11 @@ body-sound (suc n) (b ∷ bs) text e = go (body-sound n) (eqb b 34) refl (eqb (g
     go ih true isq false isd p isp h =
         let t0 : [] ≡ text = cc in
         subst (λ t. Stood (suc n) (b ∷ bs) t) t0 (record {
-          rest = bs; is = ap (λ (k : ℕ). k ∷ bs) (eqb-true b 34 isq); stops = eqb-false (getD bs 0 0) 34 isd; clean = refl; few = omega arith;
+          rest = bs;
+          is = ap (λ (k : ℕ). k ∷ bs) (eqb-true b 34 isq);
+          stops = eqb-false (getD bs 0 0) 34 isd;
+          clean = refl;
+          few = omega arith;
         })
     go ih false isq d isd true isp h =
         let a = after-some b (body n bs) h in
@@ -85,14 +89,15 @@ body-complete (suc n) (c ∷ cs) rest few clean stops =
     let parts = and-parts (printable c) (all-printable cs) clean in
     let more = body-complete n cs rest (omega arith) (parts .1) stops in
     elim (cases-eq c 34) [
-      inl is ↦
-        ap (λ l. body (suc n) ((l ++ inner cs) ++ 34 ∷ rest)) (two c is)
-        ∙ body-two n (34 ∷ 34 ∷ (inner cs ++ 34 ∷ rest)) refl refl
-        ∙ ap (after (34 ∷ [])) more ∙ ap (λ (k : ℕ). Some (k ∷ cs)) (sym is)
-    | inr other ↦
-        ap (λ l. body (suc n) ((l ++ inner cs) ++ 34 ∷ rest)) (one c other)
-        ∙ body-plain n (c ∷ (inner cs ++ 34 ∷ rest)) refl other (parts .0)
-        ∙ ap (after (c ∷ [])) more ]
+      | inl is ↦
+          ap (λ l. body (suc n) ((l ++ inner cs) ++ 34 ∷ rest)) (two c is)
+          ∙ body-two n (34 ∷ 34 ∷ (inner cs ++ 34 ∷ rest)) refl refl
+          ∙ ap (after (34 ∷ [])) more ∙ ap (λ (k : ℕ). Some (k ∷ cs)) (sym is)
+      | inr other ↦
+          ap (λ l. body (suc n) ((l ++ inner cs) ++ 34 ∷ rest)) (one c other)
+          ∙ body-plain n (c ∷ (inner cs ++ 34 ∷ rest)) refl other (parts .0)
+          ∙ ap (after (c ∷ [])) more
+    ]
 
 good-is : (text : List ℕ) → 1 ≤ length text → length text ≤ 32 → all-printable text ≡ true → good text ≡ true
 good-is text some few clean = and-from (leb 1 (length text) && leb (length text) 32) _ (and-from (leb 1 (length text)) _ (le-leb 1 (length text) some) (le-leb (length text) 32 few)) clean
@@ -123,15 +128,16 @@ accepted bytes text = (sound bytes, complete)
   where
     shape : (t rest : List ℕ) → quoted t ++ rest ≡ 34 ∷ (inner t ++ 34 ∷ rest)
     shape t rest = ap (λ l. 34 ∷ l) (append-assoc (inner t) (34 ∷ []) rest)
+
     sound : (bs : List ℕ) → unquoted bs ≡ Some text → (good text ≡ true) × Begins bs text
     sound [] e = absurd (some-none e)
     sound (b ∷ bs) e =
         let a = opened-some (eqb b 34) (body 33 bs) text e in
-        let s = body-sound 33 bs text (a .1) in
-        (
+        let s = body-sound 33 bs text (a .1) in (
           good-is text (a .2) (omega (arith, s .few)) (s .clean),
           record { rest = s .rest; is = ap (λ (k : ℕ). k ∷ bs) (eqb-true b 34 (a .0)) ∙ ap (λ l. 34 ∷ l) (s .is) ∙ sym (shape text (s .rest)); stops = s .stops },
         )
+
     complete : (good text ≡ true) × Begins bytes text → unquoted bytes ≡ Some text
     complete h =
         let parts = and-parts (leb 1 (length text) && leb (length text) 32) (all-printable text) (h .0) in
@@ -158,9 +164,9 @@ rewrites bytes at r value b e behind h =
       text = text;
       found = x .1;
       fits = λ tail long.
-        ap (room (length tail)) (sized-is text (a .0)) ∙ cond-true _ _ _ (le-leb (length (quoted text)) (length tail) (omega arith)) ∙ ap Ok size;
+          ap (room (length tail)) (sized-is text (a .0)) ∙ cond-true _ _ _ (le-leb (length (quoted text)) (length tail) (omega arith)) ∙ ap Ok size;
       same = λ tail.
-        take-at (quoted text) (drop (length (quoted text)) tail) (behind - at) size ∙ sym (ap (take (behind - at)) (a .1 .is) ∙ take-at (quoted text) (a .1 .rest) (behind - at) size);
+          take-at (quoted text) (drop (length (quoted text)) tail) (behind - at) size ∙ sym (ap (take (behind - at)) (a .1 .is) ∙ take-at (quoted text) (a .1 .rest) (behind - at) size);
     }
 
 pub written-good : (tail text : List ℕ) (n : ℕ) → written tail text ≡ Ok n → (good text ≡ true) × (n ≡ length (quoted text))
@@ -169,6 +175,7 @@ written-good tail text n e = go (good text) refl e
     last : (b : Bool) → _≡_ {A = Result ℕ Refusal} (cond b (Ok (length (quoted text))) (refused BufferShort 0)) (Ok n) → n ≡ length (quoted text)
     last true e = cc
     last false e = let z : _≡_ {A = ℕ} 0 1 = cc in absurd (omega arith)
+
     go : (g : Bool) → good text ≡ g → room (length tail) (cond g (Ok (length (quoted text))) (refused BadText 1)) ≡ Ok n → (good text ≡ true) × (n ≡ length (quoted text))
     go true is h = (is, last (leb (length (quoted text)) (length tail)) h)
     go false is h = let z : _≡_ {A = ℕ} 0 1 = cc in absurd (omega arith)
@@ -177,11 +184,11 @@ pub reads-back : (r : Result ℕ Refusal) (tail buffer text : List ℕ) → r �
 reads-back r tail buffer text value change n e =
     let g = written-good tail text n (sym value ∙ e) in
     let front : take n buffer ≡ quoted text =
-      ap (take n) (change ∙ ap (λ v. overlaid (piece v (quoted text)) tail) e) ∙ take-at (quoted text) (drop (length (quoted text)) tail) n (sym (g .1)) in
+    ap (take n) (change ∙ ap (λ v. overlaid (piece v (quoted text)) tail) e) ∙ take-at (quoted text) (drop (length (quoted text)) tail) n (sym (g .1)) in
     let inside : 0 + 1 + letters text ≡ n - 1 = omega (arith, g .1, quoted-size text) in
     let all : 0 + 1 + letters text + 1 ≡ n = omega (arith, g .1, quoted-size text) in
     let found : (rest : List ℕ) → (getD rest 0 0 ≡ 34 → ⊥) → unquoted (take n buffer ++ rest) ≡ Some text =
-      λ rest other. accepted (take n buffer ++ rest) text .1 (g .0, record { rest = rest; is = ap (λ l. l ++ rest) front; stops = other }) in
+    λ rest other. accepted (take n buffer ++ rest) text .1 (g .0, record { rest = rest; is = ap (λ l. l ++ rest) front; stops = other }) in
     record {
       found = found;
       place = λ rest other. ap (extent 0) (found rest other) ∙ (λ i. Ok (1, inside i, all i));

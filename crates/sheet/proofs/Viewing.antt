@@ -33,11 +33,12 @@ module _ (s : Sheet) (wide : length (s .names) ≡ 128) where
   abbrev extent-at : ℕ → Extent
   extent-at i = getD (s .names) i (record { begin = 0; end = 0 })
 
-  pub name-at : (i : ℕ) → i < length (view s .names) → Some (part (source s) (extent-at i)) ≡ nth (written-names s) i
-  name-at i h =
+  pub name-at : (i : ℕ) {n : ℕ} {shown : List ℕ} → i < length (view s .names) → n ≡ i → shown ≡ part (source s) (extent-at i) → Some shown ≡ nth (written-names s) n
+  name-at i {n} {shown} h same is =
       let count = count-is in
       let long = length-filled (part (source s)) (s .names) (s .«name_count») in
-      sym (nth-getD (written-names s) i [] (omega arith) ∙ ap Some (filled-at (part (source s)) (s .names) (s .«name_count») i (record { begin = 0; end = 0 }) [] (omega arith) (omega arith)))
+      ap Some is
+      ∙ sym (ap (nth (written-names s)) same ∙ nth-getD (written-names s) i [] (omega arith) ∙ ap Some (filled-at (part (source s)) (s .names) (s .«name_count») i (record { begin = 0; end = 0 }) [] (omega arith) (omega arith)))
 
   -- a search among the names has come to i
   module _ (t : List ℕ) (i : ℕ) (inv : lookup (drop i (view s .names)) t i ≡ lookup (view s .names) t 0) where
@@ -53,7 +54,6 @@ module _ (s : Sheet) (wide : length (s .names) ≡ 128) where
 
       pub not-here : false ≡ same-text (text-at (source s) (extent-at i)) t → lookup (drop (i + 1) (view s .names)) t (i + 1) ≡ lookup (view s .names) t 0
       not-here is = sym (here ∙ cond-false _ _ _ (sym is)) ∙ inv
-
 
 pub asks-are : (s : Sheet) (n : ℕ) → length (s .asks) ≡ 128 → n ≡ min (s .«ask_count») 128 → take n (s .asks) ≡ view s .asks
 asks-are s n wide is = ap (λ k. take k (s .asks)) (is ∙ ap (min (s .«ask_count»)) (sym wide)) ∙ take-min (s .asks) (s .«ask_count»)

@@ -94,25 +94,31 @@ pub joined-take : (text : List ℕ) (i : ℕ) → i < length text → inner (tak
 joined-take text i h = ap (inner) (take-more text i 0 h) ∙ sym (joined-more letter [] (take i text) (getD text i 0))
 
 module _ (old text : List ℕ) (i : ℕ) (now : List ℕ) (next : ℕ) (w : Writing old text i now next) (inside : i < length text) where
-  pub wrote-one : (c : ℕ) → c ≡ getD text i 0 → (c ≡ 34 → ⊥) → next < length old → Writing old text (i + 1) (set now next c) (next + 1)
-  wrote-one c is other h =
+  pub wrote-one : (c : ℕ) {after : List ℕ} {end : ℕ} → c ≡ getD text i 0 → (c ≡ 34 → ⊥) → next < length old → after ≡ set now next c → end ≡ next + 1 → Writing old text (i + 1) after end
+  wrote-one c is other h after-is end-is =
       let more : inner (take (i + 1) text) ≡ inner (take i text) ++ c ∷ [] = joined-take text i inside ∙ ap (λ k. inner (take i text) ++ letter k) (sym is) ∙ ap (λ l. inner (take i text) ++ l) (one c other) in
       record {
-        stands = ap (λ l. set l next c) (w .stands) ∙ put (34 ∷ inner (take i text)) old next c (omega (arith, w .ends)) h ∙ ap (λ l. (34 ∷ l) ++ drop (next + 1) old) (sym more);
-        ends = omega (arith, w .ends, ap length more, length-append (inner (take i text)) (c ∷ []));
+        stands =
+            after-is
+            ∙ ap (λ l. set l next c) (w .stands)
+            ∙ put (34 ∷ inner (take i text)) old next c (omega (arith, w .ends)) h
+            ∙ (λ k. (34 ∷ sym more k) ++ drop (sym end-is k) old);
+        ends = omega (arith, end-is, w .ends, ap length more, length-append (inner (take i text)) (c ∷ []));
       }
 
-  pub wrote-two : (c : ℕ) → c ≡ getD text i 0 → c ≡ 34 → next + 1 < length old → Writing old text (i + 1) (set (set now next c) (next + 1) 34) (next + 1 + 1)
-  wrote-two c is quote h =
+  pub wrote-two : (c : ℕ) {after : List ℕ} {end : ℕ} → c ≡ getD text i 0 → c ≡ 34 → next + 1 < length old → after ≡ set (set now next c) (next + 1) 34 → end ≡ next + 2 → Writing old text (i + 1) after end
+  wrote-two c is quote h after-is end-is =
       let js = inner (take i text) in
+      let past : next + 1 + 1 ≡ next + 2 = omega arith in
       let more : inner (take (i + 1) text) ≡ (js ++ c ∷ []) ++ 34 ∷ [] = joined-take text i inside ∙ ap (λ k. js ++ letter k) (sym is) ∙ ap (λ l. js ++ l) (two c quote ∙ ap (λ (k : ℕ). k ∷ 34 ∷ []) (sym quote)) ∙ sym (append-assoc js (c ∷ []) (34 ∷ [])) in
       record {
         stands =
-          ap (λ l. set (set l next c) (next + 1) 34) (w .stands)
-          ∙ ap (λ l. set l (next + 1) 34) (put (34 ∷ js) old next c (omega (arith, w .ends)) (omega arith))
-          ∙ put (34 ∷ (js ++ c ∷ [])) old (next + 1) 34 (omega (arith, w .ends, length-append js (c ∷ []))) h
-          ∙ ap (λ l. (34 ∷ l) ++ drop (next + 1 + 1) old) (sym more);
-        ends = omega (arith, w .ends, ap length more, length-append (js ++ c ∷ []) (34 ∷ []), length-append js (c ∷ []));
+            after-is
+            ∙ ap (λ l. set (set l next c) (next + 1) 34) (w .stands)
+            ∙ ap (λ l. set l (next + 1) 34) (put (34 ∷ js) old next c (omega (arith, w .ends)) (omega arith))
+            ∙ put (34 ∷ (js ++ c ∷ [])) old (next + 1) 34 (omega (arith, w .ends, length-append js (c ∷ []))) h
+            ∙ (λ k. (34 ∷ sym more k) ++ drop ((past ∙ sym end-is) k) old);
+        ends = omega (arith, end-is, w .ends, ap length more, length-append (js ++ c ∷ []) (34 ∷ []), length-append js (c ∷ []));
       }
 
 -- room for what is still to write

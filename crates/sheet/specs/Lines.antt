@@ -21,9 +21,9 @@ asked-lines-of s = count-line (codes "asks=") (length (view s .asks)) ∷ map (n
 -- the lines in the order of the format
 abbrev pub lines-of : Sheet → List (List ℕ)
 lines-of s =
-  text-line (codes "style=") (written-style s)
-  ∷ count-line (codes "names=") (length (view s .names))
-  ∷ (name-lines-of s ++ asked-lines-of s)
+    text-line (codes "style=") (written-style s)
+    ∷ count-line (codes "names=") (length (view s .names))
+    ∷ (name-lines-of s ++ asked-lines-of s)
 
 -- what is written back is a sheet that says the same
 abbrev pub Says-again : Sheet → Type 0

@@ -23,7 +23,7 @@ after xs None = None
 abbrev pub body : ℕ → List ℕ → Option (List ℕ)
 body zero bytes = None
 body (suc n) bytes =
-  cond (eqb (getD bytes 0 0) 34)
+    cond (eqb (getD bytes 0 0) 34)
     (cond (eqb (getD bytes 1 0) 34) (after (34 ∷ []) (body n (drop 2 bytes))) (Some []))
     (cond (printable (getD bytes 0 0)) (after (getD bytes 0 0 ∷ []) (body n (drop 1 bytes))) None)
 

@@ -41,11 +41,11 @@ ask-line a = line (codes "ask=") (ask-text a)
 
 abbrev pub encoded : Source → List ℕ
 encoded s =
-  line (codes "style=") (quoted (s .style))
-  ++ (line (codes "names=") (decimal (length (s .names)))
-  ++ (joined name-line (s .names)
-  ++ (line (codes "asks=") (decimal (length (s .asks)))
-  ++ joined ask-line (s .asks))))
+    line (codes "style=") (quoted (s .style))
+    ++ (line (codes "names=") (decimal (length (s .names)))
+    ++ (joined name-line (s .names)
+    ++ (line (codes "asks=") (decimal (length (s .asks)))
+    ++ joined ask-line (s .asks))))
 
 -- what an ask stands for
 abbrev pub or-zero : Option ℕ → ℤ

@@ -2,6 +2,7 @@
 ghost use Rattle.sheet.specs.Ends.{Heads, Within, cut-at};
 ghost use Rattle.sheet.specs.Format.{cut};
 ghost use Rattle.sheet.specs.Keys.{key-of};
+ghost use lib.Dec.{eqb};
 ghost use lib.ListN.{drop};
 ghost use mathlib.Core.Path.{_≡_};
 
@@ -16,13 +17,19 @@ pub(crate) enum Key {
     Ask,
 }
 
+fn ends_line(b: u8) -> bool
+    ensures { λ r. ⌜ r ≡ eqb b 10 ⌝ }
+{
+    b == NEWLINE
+}
+
 // The place of the byte 10 that ends the line at a place.
 pub(crate) fn line_end(bytes: &[u8], place: usize) -> Option<usize>
     ensures value { λ r. ⌜ cut-at (now (bytes .entry)) place r ≡ cut (drop place (now (bytes .entry))) ⌝ }
     ensures inside { λ r. ⌜ Within (now (bytes .entry)) place r ⌝ }
 {
     for i in place..bytes.len() {
-        if bytes[i] == NEWLINE {
+        if ends_line(bytes[i]) {
             return Some(i);
         }
     }

@@ -4,9 +4,13 @@ ghost use mathlib.Core.Path.{_≡_};
 
 // As many digits as the largest 32-bit number has.
 const LONGEST: usize = 10;
+
 const MINUS: u8 = b'-';
+
 const ZERO: u8 = b'0';
+
 const NINE: u8 = b'9';
+
 const LARGEST: u64 = 2_147_483_647;
 
 // The number that the text is the decimal form of, below ten to the tenth.
@@ -45,7 +49,11 @@ fn as_negative(n: Option<u64>) -> Option<i32>
     ensures { λ r. ⌜ r ≡ below n ⌝ }
 {
     match n {
-        Some(n) => if n == 0 || n > LARGEST + 1 { None } else { Some((-(n as i64)) as i32) },
+        Some(n) => if n == 0 || n > LARGEST + 1 {
+            None
+        } else {
+            Some((-(n as i64)) as i32)
+        },
         None => None,
     }
 }

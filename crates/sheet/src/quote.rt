@@ -11,15 +11,24 @@ use base::Cause;
 use base::Refusal;
 
 pub(crate) const QUOTE: u8 = b'"';
+
+// Stands before a quote inside a text.
+const ESCAPE: u8 = QUOTE;
+
 const LONGEST: usize = 32;
+
 const FIRST_PRINTABLE: u8 = b' ';
+
 const LAST_PRINTABLE: u8 = b'~';
 
 // A text that stands alone has no line: its place is 1.
 fn bad_text() -> Refusal
     ensures { λ r. ⌜ r ≡ record { cause = BadText; place = 1 } ⌝ }
 {
-    Refusal { cause: Cause::BadText, place: 1 }
+    Refusal {
+        cause: Cause::BadText,
+        place: 1,
+    }
 }
 
 fn is_printable(b: u8) -> bool
@@ -110,7 +119,10 @@ fn put_quoted(tail: &mut [u8], text: &[u8]) -> Result<usize, Refusal>
 {
     let size = quoted_size(text)?;
     if size > tail.len() {
-        return Err(Refusal { cause: Cause::BufferShort, place: 0 });
+        return Err(Refusal {
+            cause: Cause::BufferShort,
+            place: 0,
+        });
     }
     tail[0] = QUOTE;
     let mut next = 1;
@@ -119,7 +131,7 @@ fn put_quoted(tail: &mut [u8], text: &[u8]) -> Result<usize, Refusal>
         tail[next] = c;
         next += 1;
         if c == QUOTE {
-            tail[next] = QUOTE;
+            tail[next] = ESCAPE;
             next += 1;
         }
     }

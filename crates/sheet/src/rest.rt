@@ -31,7 +31,11 @@ pub(crate) fn read_count(rest: &[u8]) -> Result<u8, Cause>
     ensures { λ r. ⌜ r ≡ count (now (rest .entry)) ⌝ }
 {
     match read_natural(rest) {
-        Some(n) => if n <= LARGEST_COUNT { Ok(n as u8) } else { Err(Cause::BadNumber) },
+        Some(n) => if n <= LARGEST_COUNT {
+            Ok(n as u8)
+        } else {
+            Err(Cause::BadNumber)
+        },
         None => Err(Cause::BadNumber),
     }
 }

@@ -26,7 +26,11 @@ fn behind_byte(written: &[u8], at: usize) -> usize
     ensures rest { λ r. ⌜ single false (drop at (now (written .entry))) ≡ getD (now (written .entry)) at 0 ∷ single false (drop r (now (written .entry))) ⌝ }
 {
     let next = at + 1;
-    if written[at] == QUOTE && next < written.len() { next + 1 } else { next }
+    if written[at] == QUOTE && next < written.len() {
+        next + 1
+    } else {
+        next
+    }
 }
 
 // Whether two written forms are of the same text: they agree with A to Z read as a to z.

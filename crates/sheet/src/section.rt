@@ -26,12 +26,20 @@ impl Section {
 pub(crate) fn names_left(count: u8) -> Section
     ensures { λ r. ⌜ r ≡ names-left count ⌝ }
 {
-    if count == 0 { Section::Asks } else { Section::Name(count - 1) }
+    if count == 0 {
+        Section::Asks
+    } else {
+        Section::Name(count - 1)
+    }
 }
 
 // So many asks are to come, and then nothing.
 pub(crate) fn asks_left(count: u8) -> Section
     ensures { λ r. ⌜ r ≡ asks-left count ⌝ }
 {
-    if count == 0 { Section::End } else { Section::Ask(count - 1) }
+    if count == 0 {
+        Section::End
+    } else {
+        Section::Ask(count - 1)
+    }
 }

@@ -83,7 +83,13 @@ impl<'a> Sheet<'a> {
 
     // Takes a line in by the section that is reached and the line's key; answers the section that
     // comes next.
-    pub(crate) fn take_line(&mut self, section: Section, key: Key, at: usize, end: usize) -> Result<Section, Cause>
+    pub(crate) fn take_line(
+        &mut self,
+        section: Section,
+        key: Key,
+        at: usize,
+        end: usize,
+    ) -> Result<Section, Cause>
         requires inside { ⌜ end ≤ length (source (now self)) ⌝ }
         requires behind { ⌜ at ≤ end ⌝ }
         requires well { ⌜ Well-written (now self) ⌝ }

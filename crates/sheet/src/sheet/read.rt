@@ -35,7 +35,10 @@ impl<'a> Sheet<'a> {
         let mut line = 1;
         while !section.is_last() {
             let Some((key, at, end)) = read_head(bytes, place) else {
-                return Err(Refusal { cause: Cause::SheetLine, place: line });
+                return Err(Refusal {
+                    cause: Cause::SheetLine,
+                    place: line,
+                });
             };
             match sheet.take_line(section, key, at, end) {
                 Ok(next) => section = next,
@@ -45,7 +48,10 @@ impl<'a> Sheet<'a> {
             line += 1;
         }
         if place < bytes.len() {
-            return Err(Refusal { cause: Cause::SheetLine, place: line });
+            return Err(Refusal {
+                cause: Cause::SheetLine,
+                place: line,
+            });
         }
         Ok(sheet)
     }

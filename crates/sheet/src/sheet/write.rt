@@ -13,6 +13,7 @@ use lines::write_text_line;
 
 // The lines in front of the names, and the one between names and asks.
 const HEAD_LINES: usize = 2;
+
 const COUNT_LINES: usize = 1;
 
 impl Sheet<'_> {

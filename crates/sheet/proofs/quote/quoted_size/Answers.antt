@@ -20,13 +20,14 @@ pub loop-i-again : need.loop-i-again
 loop-i-again c =
     let clean = sym (c .is-printable .ensures) ∙ c .if-not-is-printable .left in
     elim (c .if-c-eq-QUOTE .came) [
-      then-c-eq-QUOTE w ↦
-        let is : c .loop-i .size + 2 ≡ c .if-c-eq-QUOTE .size = omega (arith, w .size-is) in
-        subst (λ (k : ℕ). Counting (c .args .text .now) (c .loop-i .i + 1) k) is
+      | then-c-eq-QUOTE w ↦
+          let is : c .loop-i .size + 2 ≡ c .if-c-eq-QUOTE .size = omega (arith, w .size-is) in
+          subst (λ (k : ℕ). Counting (c .args .text .now) (c .loop-i .i + 1) k) is
           (counted (c .args .text .now) (c .loop-i .i) (c .loop-i .size) (c .loop-i .inv) (c .loop-i-test .taken) 2 (omega arith) clean (ap length (two (getD (c .args .text .now) (c .loop-i .i) 0) (w .if-c-eq-QUOTE .taken))))
-    | else-c-eq-QUOTE w ↦
-        subst (λ (k : ℕ). Counting (c .args .text .now) (c .loop-i .i + 1) k) (sym (w .size-is))
-          (counted (c .args .text .now) (c .loop-i .i) (c .loop-i .size) (c .loop-i .inv) (c .loop-i-test .taken) 1 (omega arith) clean (ap length (one (getD (c .args .text .now) (c .loop-i .i) 0) (w .if-c-eq-QUOTE .left)))) ]
+      | else-c-eq-QUOTE w ↦
+          subst (λ (k : ℕ). Counting (c .args .text .now) (c .loop-i .i + 1) k) (sym (w .size-is))
+          (counted (c .args .text .now) (c .loop-i .i) (c .loop-i .size) (c .loop-i .inv) (c .loop-i-test .taken) 1 (omega arith) clean (ap length (one (getD (c .args .text .now) (c .loop-i .i) 0) (w .if-c-eq-QUOTE .left))))
+    ]
 
 pub returns : need.returns
 returns c = sym (all-counted (c .args .text .now) (c .loop-i .i) (c .loop-i .size) (c .loop-i .inv) (search needs) (search needs) (c .if-text-gt-LONGEST .left))

@@ -19,33 +19,34 @@ pub returns-then-not-is-printable : need.returns-then-not-is-printable
 returns-then-not-is-printable c =
     ap Err (c .bad-text-then-not-is-printable .ensures)
     ∙ sym (unprintable-stops (c .args .bytes .now) (c .args .at) (c .loop-n .inv) (search needs) (c .byte-at-b .result) (c .byte-at-b .ensures .value) (c .if-b-ne-QUOTE .taken)
-        (sym (c .is-printable .ensures) ∙ c .if-not-is-printable .taken))
+    (sym (c .is-printable .ensures) ∙ c .if-not-is-printable .taken))
 
 pub returns-then-end-begin : need.returns-then-end-begin
 returns-then-end-begin c =
     ap Err (c .bad-text-then-end-begin .ensures)
     ∙ sym (closed-empty (c .args .bytes .now) (c .args .at) (c .loop-n .inv) (search needs)
-        (sym (c .if-b-ne-QUOTE .left) ∙ c .byte-at-b .ensures .value)
-        (λ e. c .if-byte-at-eq-QUOTE .left (c .byte-at-else-b-ne-QUOTE .ensures .value ∙ e))
-        (c .if-end-begin .taken))
+    (sym (c .if-b-ne-QUOTE .left) ∙ c .byte-at-b .ensures .value)
+    (λ e. c .if-byte-at-eq-QUOTE .left (c .byte-at-else-b-ne-QUOTE .ensures .value ∙ e))
+    (c .if-end-begin .taken))
 
 pub returns-else-end-begin : need.returns-else-end-begin
 returns-else-end-begin c =
-    sym (closed-full (c .args .bytes .now) (c .args .at) (c .loop-n .inv) (search needs)
-        (sym (c .if-b-ne-QUOTE .left) ∙ c .byte-at-b .ensures .value)
-        (λ e. c .if-byte-at-eq-QUOTE .left (c .byte-at-else-b-ne-QUOTE .ensures .value ∙ e))
-        (c .if-end-begin .left))
+    sym (closed-full (c .args .bytes .now) (c .args .at) (c .loop-n .inv) (search needs) (omega arith)
+    (sym (c .if-b-ne-QUOTE .left) ∙ c .byte-at-b .ensures .value)
+    (λ e. c .if-byte-at-eq-QUOTE .left (c .byte-at-else-b-ne-QUOTE .ensures .value ∙ e))
+    (c .if-end-begin .left))
 
 pub loop-n-again : need.loop-n-again
 loop-n-again c = elim (c .if-b-ne-QUOTE .came) [
-    then-b-ne-QUOTE·else-not-is-printable w ↦
+  | then-b-ne-QUOTE·else-not-is-printable w ↦
       subst (λ (k : ℕ). Reading (c .args .bytes .now) (c .args .at) (c .loop-n .-n + 1) k) (sym (w .end-is))
-        (plain-more (c .args .bytes .now) (c .args .at) (c .loop-n .inv) (search needs) (c .byte-at-b .result) (c .byte-at-b .ensures .value) (w .if-b-ne-QUOTE .taken) (sym (w .is-printable .ensures) ∙ w .if-not-is-printable .left))
+      (plain-more (c .args .bytes .now) (c .args .at) (c .loop-n .inv) (search needs) (c .byte-at-b .result) (c .byte-at-b .ensures .value) (w .if-b-ne-QUOTE .taken) (sym (w .is-printable .ensures) ∙ w .if-not-is-printable .left))
   | else-b-ne-QUOTE·then-byte-at-eq-QUOTE w ↦
       subst (λ (k : ℕ). Reading (c .args .bytes .now) (c .args .at) (c .loop-n .-n + 1) k) (sym (w .end-is))
-        (quote-more (c .args .bytes .now) (c .args .at) (c .loop-n .inv) (search needs)
-          (sym (w .if-b-ne-QUOTE .left) ∙ c .byte-at-b .ensures .value)
-          (sym (w .if-byte-at-eq-QUOTE .taken) ∙ w .byte-at-else-b-ne-QUOTE .ensures .value)) ]
+      (quote-more (c .args .bytes .now) (c .args .at) (c .loop-n .inv) (search needs)
+      (sym (w .if-b-ne-QUOTE .left) ∙ c .byte-at-b .ensures .value)
+      (sym (w .if-byte-at-eq-QUOTE .taken) ∙ w .byte-at-else-b-ne-QUOTE .ensures .value))
+]
 
 pub returns : need.returns
 returns c =

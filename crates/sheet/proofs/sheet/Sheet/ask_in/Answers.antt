@@ -32,14 +32,14 @@ returns-then-byte-at-ne-QUOTE c =
     c .ok-or .ensures .value
     ∙ ap (λ o. okOr o BadNumber) (c .read-number .ensures ∙ ap number (take-rest (take (c .args .end - 0) bytes) (c .args .at) ∙ ap (λ n. drop (c .args .at) (take n bytes)) same))
     ∙ ask-number (view (c .args .self .now) .names) (drop (c .args .at) (take (c .args .end) bytes))
-        (λ e. c .if-byte-at-ne-QUOTE .taken (sym (first bytes (c .args .at) (c .args .end) (c .byte-at .result) (c .byte-at .ensures .value)) ∙ e))
+    (λ e. c .if-byte-at-ne-QUOTE .taken (sym (first bytes (c .args .at) (c .args .end) (c .byte-at .result) (c .byte-at .ensures .value)) ∙ e))
 
 pub returns-in-Break-name : need.returns-in-Break-name
 returns-in-Break-name c =
     let p = err-from-errBy (c .from-residual .result) (c .from-residual .ensures .1) in
     let bytes = source (c .args .self .now) in
     rw (p .1, p .2) (sym (ask-refused (view (c .args .self .now) .names) (drop (c .args .at) (take (c .args .end) bytes))
-      (first bytes (c .args .at) (c .args .end) (c .byte-at .result) (c .byte-at .ensures .value) ∙ c .if-byte-at-ne-QUOTE .left) _ (c .in-Break-name .ensures tt)))
+    (first bytes (c .args .at) (c .args .end) (c .byte-at .result) (c .byte-at .ensures .value) ∙ c .if-byte-at-ne-QUOTE .left) _ (c .in-Break-name .ensures tt)))
 
 pub returns-in-Some : need.returns-in-Some
 returns-in-Some c =
@@ -47,12 +47,12 @@ returns-in-Some c =
     let fits : SFits w32 (c .from .result) = search needs in
     ap Ok (toZ-ofZ w32 (c .from .result) fits ∙ c .from .ensures)
     ∙ sym (ask-found (view (c .args .self .now) .names) (drop (c .args .at) (take (c .args .end) bytes))
-      (first bytes (c .args .at) (c .args .end) (c .byte-at .result) (c .byte-at .ensures .value) ∙ c .if-byte-at-ne-QUOTE .left)
-      (text-at bytes (c .in-Continue-name .name)) (c .in-Some .n) (c .in-Continue-name .ensures tt .0) (c .in-Some .ensures tt))
+    (first bytes (c .args .at) (c .args .end) (c .byte-at .result) (c .byte-at .ensures .value) ∙ c .if-byte-at-ne-QUOTE .left)
+    (text-at bytes (c .in-Continue-name .name)) (c .in-Some .n) (c .in-Continue-name .ensures tt .0) (c .in-Some .ensures tt))
 
 pub returns-in-None : need.returns-in-None
 returns-in-None c =
     let bytes = source (c .args .self .now) in
     sym (ask-missing (view (c .args .self .now) .names) (drop (c .args .at) (take (c .args .end) bytes))
-      (first bytes (c .args .at) (c .args .end) (c .byte-at .result) (c .byte-at .ensures .value) ∙ c .if-byte-at-ne-QUOTE .left)
-      (text-at bytes (c .in-Continue-name .name)) (c .in-Continue-name .ensures tt .0) (c .in-None .ensures tt))
+    (first bytes (c .args .at) (c .args .end) (c .byte-at .result) (c .byte-at .ensures .value) ∙ c .if-byte-at-ne-QUOTE .left)
+    (text-at bytes (c .in-Continue-name .name)) (c .in-Continue-name .ensures tt .0) (c .in-None .ensures tt))

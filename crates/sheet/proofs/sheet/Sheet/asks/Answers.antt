@@ -10,4 +10,4 @@ pub returns : need.returns
 returns c =
     let wide : length (c .args .self .now .asks) ≡ 128 = search needs in
     let front : c .min-count .result - 0 ≡ c .min-count .result = omega arith in
-    ap (λ n. take n (c .args .self .now .asks)) front ∙ asks-are (c .args .self .now) (c .min-count .result) wide (c .min-count .ensures)
+    ap (λ n. take n (c .args .self .now .asks)) front ∙ asks-are (c .args .self .now) (c .min-count .result) wide (search needs)

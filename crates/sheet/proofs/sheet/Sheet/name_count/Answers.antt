@@ -1,4 +1,5 @@
 use mathlib.Core.Path.{_≡_, sym, _∙_}
+use Prim.Native.Nat.{min}
 use native.Mathlib.Omega.{arith}
 use borrow.Author.Needs.{needs}
 use lib.ListN.{length}
@@ -8,4 +9,5 @@ use Rattle.sheet.proofs.sheet.Sheet.name_count.Needs as need
 pub returns : need.returns
 returns c =
     let wide : length (c .args .self .now .names) ≡ 128 = search needs in
-    record { value = c .min .ensures ∙ sym (count-is (c .args .self .now) wide); few = omega (arith, c .min .ensures) }
+    let is : c .min .result ≡ min (c .args .self .now .«name_count») 128 = search needs in
+    record { value = is ∙ sym (count-is (c .args .self .now) wide); few = omega arith }

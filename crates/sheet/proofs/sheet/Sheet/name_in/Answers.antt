@@ -15,12 +15,12 @@ returns-in-Break-name c =
 pub returns-in-Some : need.returns-in-Some
 returns-in-Some c =
     name-twice (view (c .args .self .now) .names) (text (drop (c .args .at) (take (c .args .end) (source (c .args .self .now))))) (text-at (source (c .args .self .now)) (c .in-Continue-name .name))
-      (c .in-Continue-name .ensures tt .0) (c .in-Some .field-0) (c .in-Some .ensures tt)
+    (c .in-Continue-name .ensures tt .0) (c .in-Some .field-0) (c .in-Some .ensures tt)
 
 pub returns-in-None : need.returns-in-None
 returns-in-None c = (
   name-new (view (c .args .self .now) .names) (text (drop (c .args .at) (take (c .args .end) (source (c .args .self .now))))) (text-at (source (c .args .self .now)) (c .in-Continue-name .name))
-    (c .in-Continue-name .ensures tt .0) (c .in-None .ensures tt),
+      (c .in-Continue-name .ensures tt .0) (c .in-None .ensures tt),
   c .in-Continue-name .ensures tt .1,
   c .in-Continue-name .ensures tt .2,
 )

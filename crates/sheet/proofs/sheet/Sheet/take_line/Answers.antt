@@ -27,11 +27,11 @@ returns-in-Continue-name c =
       says =
           ap (λ s. Ok (s, view (c .add-name .last .self))) (c .names-left-in-Name-Name .ensures)
           ∙ took-name (c .args .section) (c .args .key) more before (view (c .add-name .last .self)) (drop (c .args .at) (take (c .args .end) (source (c .args .self .now)))) t
-            (c .in-Name-Name .is-0) (c .in-Name-Name .is-1) (c .in-Continue-name .ensures tt .0) (c .add-name .ensures .says);
+          (c .in-Name-Name .is-0) (c .in-Name-Name .is-1) (c .in-Continue-name .ensures tt .0) (c .add-name .ensures .says);
       from = c .add-name .ensures .from;
       well = c .add-name .ensures .well;
       roomy = roomy-at _ _ (with-name before t) _ (c .names-left-in-Name-Name .ensures) (c .add-name .ensures .says)
-        (room-for-names more before t (subst (λ (s : Section). Roomy s before) (c .in-Name-Name .is-0) (c .pre .room)));
+          (room-for-names more before t (subst (λ (s : Section). Roomy s before) (c .in-Name-Name .is-0) (c .pre .room)));
     }
 
 pub returns-in-Continue-answer : need.returns-in-Continue-answer
@@ -45,9 +45,9 @@ returns-in-Continue-answer c =
       says =
           ap (λ s. Ok (s, view (c .add-ask .last .self))) (c .asks-left-in-Ask-Ask .ensures)
           ∙ took-ask (c .args .section) (c .args .key) more before (view (c .add-ask .last .self)) (drop (c .args .at) (take (c .args .end) (source (c .args .self .now)))) z
-            (c .in-Ask-Ask .is-0) (c .in-Ask-Ask .is-1) (sym (c .in-Continue-answer .ensures tt)) says;
+          (c .in-Ask-Ask .is-0) (c .in-Ask-Ask .is-1) (sym (c .in-Continue-answer .ensures tt)) says;
       from = c .add-ask .ensures .from;
       well = c .add-ask .ensures .well;
       roomy = roomy-at _ _ (with-ask before z) _ (c .asks-left-in-Ask-Ask .ensures) says
-        (room-for-asks more before z (subst (λ (s : Section). Roomy s before) (c .in-Ask-Ask .is-0) (c .pre .room)));
+          (room-for-asks more before z (subst (λ (s : Section). Roomy s before) (c .in-Ask-Ask .is-0) (c .pre .room)));
     }

@@ -21,9 +21,9 @@ returns-then-i-asks c =
     let asks = c .asks-asks .result .now in
     let fits : SFits w32 (getD asks (c .args .i - 1) (pos 0)) = search needs in
     let same =
-      ap (number-line (codes "ask=")) (toZ-ofZ w32 (getD asks (c .args .i - 1) (pos 0)) fits)
-      ∙ ap (λ l. number-line (codes "ask=") (getD l (c .args .i - 1) (pos 0))) (c .asks-asks .ensures)
-      ∙ ask-line-at s (c .args .i) (c .if-i-eq0 .left) (omega (arith, c .if-i-asks .taken, ap length (c .asks-asks .ensures))) in
+    ap (number-line (codes "ask=")) (toZ-ofZ w32 (getD asks (c .args .i - 1) (pos 0)) fits)
+    ∙ ap (λ l. number-line (codes "ask=") (getD l (c .args .i - 1) (pos 0))) (c .asks-asks .ensures)
+    ∙ ask-line-at s (c .args .i) (c .if-i-eq0 .left) (omega (arith, c .if-i-asks .taken, ap length (c .asks-asks .ensures))) in
     record {
       value = fits-as (c .args .tail .now) _ (getD (asked-lines-of s) (c .args .i) []) same (c .write-number-line .result) (c .write-number-line .ensures .value);
       change = changes-as (c .args .tail .now) _ (getD (asked-lines-of s) (c .args .i) []) same (c .write-number-line .result) (c .write-number-line .last .tail) (c .write-number-line .ensures .change);

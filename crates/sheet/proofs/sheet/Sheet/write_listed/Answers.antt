@@ -15,8 +15,8 @@ returns-then-i-names c =
     let s = c .args .self .now in
     let count = c .name-count-names .ensures .value in
     let same =
-      ap (λ n. getD (asked-lines-of s) (c .args .i - n) []) count
-      ∙ asked-at s (c .args .i) (omega (arith, c .if-i-names .taken, count)) in
+    ap (λ n. getD (asked-lines-of s) (c .args .i - n) []) count
+    ∙ asked-at s (c .args .i) (omega (arith, c .if-i-names .taken, count)) in
     record {
       value = fits-as (c .args .tail .now) _ (getD (name-lines-of s ++ asked-lines-of s) (c .args .i) []) same (c .write-asked .result) (c .write-asked .ensures .value);
       change = changes-as (c .args .tail .now) _ (getD (name-lines-of s ++ asked-lines-of s) (c .args .i) []) same (c .write-asked .result) (c .write-asked .last .tail) (c .write-asked .ensures .change);
