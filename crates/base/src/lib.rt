@@ -9,6 +9,8 @@ pub use ids::CellId;
 pub use ids::ChannelId;
 pub use ids::Label;
 pub use ids::NameId;
+pub use ids::NameIdDebug;
+pub use ids::NameIdPartialEq;
 pub use ids::TableId;
 pub use refusal::Cause;
 pub use refusal::Refusal;

@@ -7,6 +7,9 @@ use std::alloc::AllocError;
 use std::alloc::Global;
 use std::error::AnyError;
 
+#[cfg(test)]
+mod tests;
+
 const EMPTY: &[u8] = b"-";
 
 // The value of a hexadecimal digit, where it is one.

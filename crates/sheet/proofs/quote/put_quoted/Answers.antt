@@ -38,12 +38,13 @@ loop-i-again c =
     let old = set (c .args .tail .now) 0 34 in
     let long = length-set (c .args .tail .now) 0 34 in
     elim (c .if-c-eq-QUOTE .came) [
-      then-c-eq-QUOTE w ↦
-        let h = roomy-two (c .args .tail .now) (c .args .text .now) (c .in-Continue-size .size) (c .loop-i .i) (c .loop-i .tail) (c .loop-i .next) (c .in-Continue-size .ensures tt) (c .if-size-tail .left) (c .loop-i .inv) (c .loop-i-test .taken) (w .if-c-eq-QUOTE .taken) in
-        wrote-two old (c .args .text .now) (c .loop-i .i) (c .loop-i .tail) (c .loop-i .next) (c .loop-i .inv) (c .loop-i-test .taken) (getD (c .args .text .now) (c .loop-i .i) 0) refl (w .if-c-eq-QUOTE .taken) (omega arith) (search needs) (omega arith)
-    | else-c-eq-QUOTE w ↦
-        let h = roomy-one (c .args .tail .now) (c .args .text .now) (c .in-Continue-size .size) (c .loop-i .i) (c .loop-i .tail) (c .loop-i .next) (c .in-Continue-size .ensures tt) (c .if-size-tail .left) (c .loop-i .inv) (c .loop-i-test .taken) in
-        wrote-one old (c .args .text .now) (c .loop-i .i) (c .loop-i .tail) (c .loop-i .next) (c .loop-i .inv) (c .loop-i-test .taken) (getD (c .args .text .now) (c .loop-i .i) 0) refl (w .if-c-eq-QUOTE .left) (omega arith) (search needs) (omega arith) ]
+      | then-c-eq-QUOTE w ↦
+          let h = roomy-two (c .args .tail .now) (c .args .text .now) (c .in-Continue-size .size) (c .loop-i .i) (c .loop-i .tail) (c .loop-i .next) (c .in-Continue-size .ensures tt) (c .if-size-tail .left) (c .loop-i .inv) (c .loop-i-test .taken) (w .if-c-eq-QUOTE .taken) in
+          wrote-two old (c .args .text .now) (c .loop-i .i) (c .loop-i .tail) (c .loop-i .next) (c .loop-i .inv) (c .loop-i-test .taken) (getD (c .args .text .now) (c .loop-i .i) 0) refl (w .if-c-eq-QUOTE .taken) (omega arith) (search needs) (omega arith)
+      | else-c-eq-QUOTE w ↦
+          let h = roomy-one (c .args .tail .now) (c .args .text .now) (c .in-Continue-size .size) (c .loop-i .i) (c .loop-i .tail) (c .loop-i .next) (c .in-Continue-size .ensures tt) (c .if-size-tail .left) (c .loop-i .inv) (c .loop-i-test .taken) in
+          wrote-one old (c .args .text .now) (c .loop-i .i) (c .loop-i .tail) (c .loop-i .next) (c .loop-i .inv) (c .loop-i-test .taken) (getD (c .args .text .now) (c .loop-i .i) 0) refl (w .if-c-eq-QUOTE .left) (omega arith) (search needs) (omega arith)
+    ]
 
 pub index-tail-next-2 : need.index-tail-next-2
 index-tail-next-2 c =
