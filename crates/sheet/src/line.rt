@@ -17,6 +17,7 @@ pub(crate) enum Key {
     Ask,
 }
 
+// Only byte 10 ends a line; byte 13 does not.
 fn ends_line(b: u8) -> bool
     ensures { λ r. ⌜ r ≡ eqb b 10 ⌝ }
 {

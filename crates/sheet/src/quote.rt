@@ -12,7 +12,7 @@ use base::Refusal;
 
 pub(crate) const QUOTE: u8 = b'"';
 
-// Stands before a quote inside a text.
+// Written beside a quote inside a text, so that it is not taken for the closing one.
 const ESCAPE: u8 = QUOTE;
 
 const LONGEST: usize = 32;

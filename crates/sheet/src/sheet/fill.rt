@@ -31,6 +31,7 @@ impl<'a> Sheet<'a> {
         }
     }
 
+    // The style stands at this extent.
     pub(crate) fn set_style(&mut self, at: Extent)
         requires well { ⌜ Well-written (now self) ⌝ }
         requires stands { ⌜ Stands (source (now self)) at ⌝ }
@@ -41,6 +42,7 @@ impl<'a> Sheet<'a> {
         self.style = at;
     }
 
+    // One name more, behind the others.
     pub(crate) fn add_name(&mut self, at: Extent)
         requires well { ⌜ Well-written (now self) ⌝ }
         requires stands { ⌜ Stands (source (now self)) at ⌝ }
@@ -53,6 +55,7 @@ impl<'a> Sheet<'a> {
         self.name_count += 1;
     }
 
+    // One ask more, behind the others.
     pub(crate) fn add_ask(&mut self, answer: i32)
         requires well { ⌜ Well-written (now self) ⌝ }
         requires room { ⌜ length (view (now self) .asks) < 128 ⌝ }

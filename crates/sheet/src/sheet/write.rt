@@ -36,6 +36,7 @@ impl Sheet<'_> {
             _ => self.write_listed(tail, k - HEAD_LINES),
         }
     }
+
     // The lines behind the count of names.
     fn write_listed(&self, tail: &mut [u8], i: usize) -> Result<usize, Refusal>
         ensures value { λ r. ⌜ r ≡ fitted (now (tail .entry)) (getD (name-lines-of (now (self .entry)) ++ asked-lines-of (now (self .entry))) i []) ⌝ }
