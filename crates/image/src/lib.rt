@@ -2,6 +2,8 @@
 // It promises that an image is read exactly when its words are the encoding of some structure
 // within the format's bounds, that a refusal is the first broken rule at its word, and that an
 // instruction is decoded exactly where its encoding stands.
+#![tactic(auto)]
+
 mod blocks;
 mod bytes;
 mod channels;

@@ -2,6 +2,8 @@
 // on base and lines. It promises that a sheet is accepted exactly when its bytes are the written form
 // of some sheet, that a refusal is the first broken rule at its line, and that quoted names go round
 // trip.
+#![tactic(auto)]
+
 mod extent;
 mod line;
 mod number;
