@@ -6,5 +6,5 @@ use Rattle.sheet.proofs.number.read_number.Goals as goal
 
 pub returns-then-text-eq-MINUS : goal.returns-then-text-eq-MINUS
 returns-then-text-eq-MINUS c =
-    c.as-negative.ensures ∙ ap below (c.read-natural.ensures ∙ ap natural (take_rest c.args.text.now 1))
+    c.as_negative.ensures ∙ ap below (c.read_natural.ensures ∙ ap natural (take_rest c.args.text.now 1))
     ∙ sym (cond-true _ _ _ (eq-eqb (get_or c.args.text.now 0 0) 45 c.if-text-eq-MINUS.true))

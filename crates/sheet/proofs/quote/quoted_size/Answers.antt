@@ -3,17 +3,17 @@ use Rattle.sheet.proofs.Writing.{Counting, counted, uncounted, all_counted, one,
 use Rattle.sheet.proofs.quote.quoted_size.Goals as goal
 use Rattle.sheet.proofs.quote.quoted_size.Goals.{then-c-eq-QUOTE, else-c-eq-QUOTE}
 
-pub returns-then-not-is-printable : goal.returns-then-not-is-printable
-returns-then-not-is-printable c =
-    ap Err c.bad-text-then-not-is-printable.ensures
-    ∙ sym (uncounted c.args.text.now c.loop-i.i c.loop-i.size c.loop-i.invariant c.loop-i-test.true (sym c.is-printable.ensures ∙ c.if-not-is-printable.true))
+pub returns-then-not-is_printable : goal.returns-then-not-is_printable
+returns-then-not-is_printable c =
+    ap Err c.bad_text-then-not-is_printable.ensures
+    ∙ sym (uncounted c.args.text.now c.loop-i.i c.loop-i.size c.loop-i.invariant c.loop-i-test.true (sym c.is_printable.ensures ∙ c.if-not-is_printable.true))
 
 pub loop-i-init : goal.loop-i-init
 loop-i-init c = record { sum = refl; clean = refl; small = omega arith }
 
 pub loop-i-preserved : goal.loop-i-preserved
 loop-i-preserved c =
-    let clean = sym c.is-printable.ensures ∙ c.if-not-is-printable.false in
+    let clean = sym c.is_printable.ensures ∙ c.if-not-is_printable.false in
     elim c.if-c-eq-QUOTE.branch [
       | then-c-eq-QUOTE w ↦
           let is : c.loop-i.size + 2 ≡ c.if-c-eq-QUOTE.size = omega (arith, w.size-is) in

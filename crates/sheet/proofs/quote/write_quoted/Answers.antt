@@ -3,7 +3,7 @@ use Rattle.sheet.proofs.quote.write_quoted.Goals as goal
 
 pub returns : goal.returns
 returns c = record {
-  value = c.put-quoted.ensures.value;
-  change = c.put-quoted.ensures.change;
-  back = reads_back c.put-quoted.result c.args.tail.now c.put-quoted.new.tail c.args.text.now c.put-quoted.ensures.value c.put-quoted.ensures.change;
+  value = c.put_quoted.ensures.value;
+  change = c.put_quoted.ensures.change;
+  back = reads_back c.put_quoted.result c.args.tail.now c.put_quoted.new.tail c.args.text.now c.put_quoted.ensures.value c.put_quoted.ensures.change;
 }

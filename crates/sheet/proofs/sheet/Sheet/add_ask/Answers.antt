@@ -12,14 +12,14 @@ room_for_ask s wide h = omega (arith, length-take s.ask_count s.asks)
 pub bounds-self-self : goal.bounds-self-self
 bounds-self-self c = let wide : length c.args.self.now.asks ≡ 128 = search rules in room_for_ask c.args.self.now wide c.requires.room
 
-pub offset-bounds-self-self : goal.offset-bounds-self-self
-offset-bounds-self-self c =
+pub offset_bounds-self-self : goal.offset_bounds-self-self
+offset_bounds-self-self c =
     let wide : length c.args.self.now.asks ≡ 128 = search rules in
     let few = room_for_ask c.args.self.now wide c.requires.room in
     search rules
 
-pub overflow-add-self : goal.overflow-add-self
-overflow-add-self c =
+pub overflow_add-self : goal.overflow_add-self
+overflow_add-self c =
     let wide : length c.args.self.now.asks ≡ 128 = search rules in
     let few = room_for_ask c.args.self.now wide c.requires.room in
     search rules

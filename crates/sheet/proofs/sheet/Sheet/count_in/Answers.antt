@@ -8,4 +8,4 @@ pub returns : goal.returns
 returns c =
     let bytes = source c.args.self.now in
     let same : c.args.end - 0 ≡ c.args.end = omega arith in
-    c.read-count.ensures ∙ ap count (take_rest (take (c.args.end - 0) bytes) c.args.at ∙ ap (λ n. drop c.args.at (take n bytes)) same)
+    c.read_count.ensures ∙ ap count (take_rest (take (c.args.end - 0) bytes) c.args.at ∙ ap (λ n. drop c.args.at (take n bytes)) same)

@@ -13,11 +13,11 @@ use Rattle.sheet.proofs.sheet.Sheet.lookup.Goals as goal
 some_between : (tail text : List ℕ) (size : ℕ) → written tail text ≡ Ok size → 1 ≤ size - 1
 some_between tail text size ok = omega (arith, (written_good tail text size ok).1, quoted_size text)
 
-pub slice-bounds-find-count : goal.slice-bounds-find-count
-slice-bounds-find-count c = some_between (replicate 66 0) c.args.text.now c.in-Ok.size (sym c.in-Ok.ensures.value)
+pub slice_bounds-find-count : goal.slice_bounds-find-count
+slice_bounds-find-count c = some_between (replicate 66 0) c.args.text.now c.in-Ok.size (sym c.in-Ok.ensures.value)
 
-pub slice-bounds-find-start : goal.slice-bounds-find-start
-slice-bounds-find-start c =
+pub slice_bounds-find-start : goal.slice_bounds-find-start
+slice_bounds-find-start c =
     let h = some_between (replicate 66 0) c.args.text.now c.in-Ok.size (sym c.in-Ok.ensures.value) in
     search rules
 

@@ -6,4 +6,4 @@ use Rattle.sheet.specs.View.{view}
 use Rattle.sheet.proofs.sheet.Sheet.number_of.Goals as goal
 
 pub returns : goal.returns
-returns c = c.find.ensures ∙ ap (λ p. numbered (lookup (view c.args.self.now).names (single false p) 0)) c.part-of.ensures
+returns c = c.find.ensures ∙ ap (λ p. numbered (lookup (view c.args.self.now).names (single false p) 0)) c.part_of.ensures

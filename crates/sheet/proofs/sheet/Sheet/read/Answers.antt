@@ -4,9 +4,9 @@ use Rattle.sheet.proofs.sheet.Sheet.read.Goals as goal
 
 pub returns : goal.returns
 returns c = record {
-  value = c.read-lines.ensures.value;
+  value = c.read_lines.ensures.value;
   exactly = accepts_exactly c.args.bytes.now;
-  from = c.read-lines.ensures.from;
-  well = c.read-lines.ensures.well;
-  again = read_again c.args.bytes.now c.read-lines.result c.read-lines.ensures.value c.read-lines.ensures.well;
+  from = c.read_lines.ensures.from;
+  well = c.read_lines.ensures.well;
+  again = read_again c.args.bytes.now c.read_lines.result c.read_lines.ensures.value c.read_lines.ensures.well;
 }

@@ -9,5 +9,5 @@ pub returns : goal.returns
 returns c =
     let bytes = source c.args.self.now in
     let front : c.args.end - 0 ≡ c.args.end = omega arith in
-    locates_behind bytes c.args.end (text (drop c.args.at (take c.args.end bytes))) c.read-text.result
-    (subst (λ (n : ℕ). Locates (take n bytes) (text (drop c.args.at (take n bytes))) c.read-text.result) front c.read-text.ensures)
+    locates_behind bytes c.args.end (text (drop c.args.at (take c.args.end bytes))) c.read_text.result
+    (subst (λ (n : ℕ). Locates (take n bytes) (text (drop c.args.at (take n bytes))) c.read_text.result) front c.read_text.ensures)

@@ -15,8 +15,8 @@ returns-then-i-asks c =
     ∙ ap (λ l. number_line (codes "ask=") (get_or l (c.args.i - 1) (pos 0))) c.asks-asks.ensures
     ∙ ask_line_at s c.args.i c.if-i-eq0.false (omega (arith, c.if-i-asks.true, ap length c.asks-asks.ensures)) in
     record {
-      value = fits_as c.args.tail.now _ (get_or (asked_lines_of s) c.args.i []) same c.write-number-line.result c.write-number-line.ensures.value;
-      change = changes_as c.args.tail.now _ (get_or (asked_lines_of s) c.args.i []) same c.write-number-line.result c.write-number-line.new.tail c.write-number-line.ensures.change;
+      value = fits_as c.args.tail.now _ (get_or (asked_lines_of s) c.args.i []) same c.write_number_line.result c.write_number_line.ensures.value;
+      change = changes_as c.args.tail.now _ (get_or (asked_lines_of s) c.args.i []) same c.write_number_line.result c.write_number_line.new.tail c.write_number_line.ensures.change;
     }
 
 pub returns-else-i-asks : goal.returns-else-i-asks
