@@ -1,5 +1,5 @@
 -- What a looked-up text makes of the rest of a line.
-use Rattle.std.proofs.Common.{◌≡◌, ℕ, cond, eqb, List, get_or, ℤ, pos, Some, None, Ok, Err, Option, Result, sym, refl, ap, ◌∙◌, arith}
+use Rattle.std.proofs.Common.{◌≡◌, ℕ, List, get_or, ℤ, pos, Some, None, Ok, Err, Option, Result, sym, refl, ap, ◌∙◌, arith}
 use Rattle.std.specs.Option.{ok_or}
 use Rattle.std.proofs.lemmas.Bool.{eq-eqb, ne_eqb, cond-true, cond-false}
 use Rattle.base.specs.declared.ids.NameId.{NameId}

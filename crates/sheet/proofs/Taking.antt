@@ -1,7 +1,6 @@
 -- A line taken in: what it says in its section, and the room that is left.
-use Rattle.std.proofs.Common.{◌≡◌, ℕ, zero, suc, List, ℤ, Ok, Result, sym, ap, ◌∙◌, subst, arith}
+use Rattle.std.proofs.Common.{◌≡◌, ℕ, zero, suc, List, ℤ, Ok, sym, ap, ◌∙◌, arith}
 use Rattle.std.proofs.lemmas.List.{length_push}
-use Rattle.base.specs.declared.refusal.Cause.{Cause}
 use Rattle.sheet.specs.declared.line.Key.{Key}
 use Rattle.sheet.specs.declared.line.Key.TheVariants as key
 use Rattle.sheet.specs.declared.section.Section.{Section}

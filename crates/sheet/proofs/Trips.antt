@@ -1,17 +1,16 @@
 -- The reader accepts exactly the quoted forms of texts; both round trips follow.
-use Rattle.std.proofs.Common.{◌≡◌, ℕ, zero, suc, ◌+◌, ◌-◌, ◌<◌, ◌≤◌, Bool, true, false, cond, ◌&&◌, eqb, leb, ◌⊎◌, ◌↔◌, List, [], ◌∷◌, ◌++◌, length, get_or, take, drop, Some, None, Ok, Err, Option, Result, sym, refl, ap, ◌∙◌, subst, inl, inr, append_assoc, arith, length-append}
-use Rattle.std.specs.List.{flat_map}
-use Rattle.std.proofs.lemmas.Bool.{eqb-true, eqb-false, eq-eqb, leb-true, le-leb, cond-true, and_parts, and_from, cases_eq}
+use Rattle.std.proofs.Common.{◌≡◌, ℕ, zero, suc, ◌+◌, ◌-◌, ◌<◌, ◌≤◌, Bool, true, false, cond, ◌&&◌, eqb, leb, List, [], ◌∷◌, ◌++◌, length, get_or, take, drop, Some, None, Ok, Option, Result, sym, refl, ap, ◌∙◌, subst, inl, inr, append_assoc, arith}
+use Rattle.std.proofs.lemmas.Bool.{eqb-true, eqb-false, leb-true, le-leb, cond-true, and_parts, and_from, cases_eq}
 use Rattle.std.proofs.lemmas.List.{take_at}
 use Rattle.base.specs.declared.refusal.Refusal.{Refusal}
 use Rattle.base.specs.declared.refusal.Cause.TheVariants.{BadText, BufferShort}
-use Rattle.sheet.specs.Text.{letter, inner, quoted, printable, all_printable, good}
+use Rattle.sheet.specs.Text.{inner, quoted, printable, all_printable, good}
 use Rattle.sheet.specs.Quoted.{after, body, nonempty, unquoted, extent, sized, written}
 use Rattle.base.specs.Refusals.{refused}
 use Rattle.lines.specs.Overlay.{room, overlaid, piece}
-use Rattle.sheet.specs.RoundTrips.{Begins, ReadsExactly, SameBytes, Rewrites, ReadBack, ReadsBack}
-use Rattle.sheet.proofs.Reading.{body_plain, body_two, body_closed, head_drop}
-use Rattle.sheet.proofs.Writing.{one, two, letters, sized_good, sized_ok, quoted_size}
+use Rattle.sheet.specs.RoundTrips.{Begins, ReadsExactly, Rewrites, ReadsBack}
+use Rattle.sheet.proofs.Reading.{body_plain, body_two, body_closed}
+use Rattle.sheet.proofs.Writing.{one, two, letters, quoted_size}
 
 some_none : {X : Type 0} {x : X} → ◌≡◌ {A = Option X} None (Some x) → ⊥
 some_none e = let z : ◌≡◌ {A = ℕ} 0 1 = cc in omega arith

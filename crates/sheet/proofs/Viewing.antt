@@ -1,15 +1,15 @@
 -- What a sheet says of its names, one by one.
-use Rattle.std.proofs.Common.{◌≡◌, ℕ, ◌+◌, ◌<◌, ◌≤◌, min, true, false, cond, List, [], ◌∷◌, map, length, get_or, take, drop, Some, None, Option, sym, refl, ap, ◌∙◌, arith}
+use Rattle.std.proofs.Common.{◌≡◌, ℕ, ◌+◌, ◌<◌, ◌≤◌, min, true, false, cond, List, [], length, get_or, take, drop, Some, None, sym, ap, ◌∙◌, arith}
 use Rattle.std.specs.List.{slice_get}
-use Rattle.std.proofs.lemmas.List.{at_drop_more, at_drop_all, length-take}
+use Rattle.std.proofs.lemmas.List.{at_drop_more, at_drop_all}
 use Rattle.std.proofs.lemmas.Option.{slice_get-get_or, slice_get_past}
 use Rattle.std.proofs.lemmas.Bool.{cond-true, cond-false}
 use Rattle.sheet.specs.declared.extent.Extent.{Extent}
 use Rattle.sheet.specs.declared.sheet.Sheet.{Sheet}
-use Rattle.sheet.specs.Part.{part, single, text_at}
+use Rattle.sheet.specs.Part.{part, text_at}
 use Rattle.sheet.specs.Same.{same_text}
 use Rattle.sheet.specs.Format.{lookup}
-use Rattle.sheet.specs.View.{source, name_extents, written_names, view}
+use Rattle.sheet.specs.View.{source, written_names, view}
 use Rattle.sheet.proofs.Parting.{take_min}
 use Rattle.sheet.proofs.Filling.{length_filled, filled_at}
 

@@ -1,5 +1,5 @@
 -- A sheet written back line by line, every ask resolved to its number.
-use Rattle.std.specs.Prelude.{◌≡◌, ℕ, List, [], ◌∷◌, ◌++◌, map, length, Ok, codes}
+use Rattle.std.specs.Prelude.{◌≡◌, ℕ, List, ◌∷◌, ◌++◌, map, length, Ok, codes}
 use Rattle.std.specs.List.{flat_map}
 use Rattle.lines.specs.Lines.{text_line, count_line, number_line}
 use Rattle.sheet.specs.declared.sheet.Sheet.{Sheet}

@@ -1,5 +1,5 @@
 -- What is read is exactly what was quoted: quoted names go round trip both ways.
-use Rattle.std.specs.Prelude.{◌≡◌, ℕ, ◌+◌, ◌-◌, ◌≤◌, true, ◌↔◌, List, [], ◌∷◌, ◌++◌, length, take, drop, Some, Ok, Result, ◌≢◌, slice_index, slice_index_or, slice_range}
+use Rattle.std.specs.Prelude.{◌≡◌, ℕ, ◌-◌, ◌≤◌, true, ◌↔◌, List, ◌++◌, length, take, drop, Some, Ok, Result, ◌≢◌, slice_index, slice_index_or, slice_range}
 use Rattle.base.specs.declared.refusal.Refusal.{Refusal}
 use Rattle.sheet.specs.Text.{good, quoted}
 use Rattle.sheet.specs.Quoted.{unquoted, extent, written}

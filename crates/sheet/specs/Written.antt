@@ -1,5 +1,5 @@
 -- The written form of a sheet: what is accepted is exactly this.
-use Rattle.std.specs.Prelude.{◌≡◌, ℕ, ◌<◌, ◌≤◌, Bool, true, false, ◌↔◌, List, [], ◌∷◌, ◌++◌, map, length, ℤ, pos, Some, None, Ok, codes, decimal, Option, slice_index_or}
+use Rattle.std.specs.Prelude.{◌≡◌, ℕ, ◌<◌, ◌≤◌, true, false, ◌↔◌, List, [], ◌++◌, map, length, ℤ, pos, Some, None, Ok, codes, decimal, Option, slice_index_or}
 use Rattle.std.specs.List.{flat_map}
 use Rattle.std.specs.Fmt.{signed_decimal}
 use Rattle.lines.specs.Lines.{line}

@@ -1,5 +1,5 @@
-use Rattle.std.proofs.Common.{◌≡◌, ℕ, ◌+◌, ◌<◌, ◌≤◌, List, length, get_or, drop, set, Ok, Err, sym, refl, ap, ◌∙◌, subst, arith, length-set, rules}
-use Rattle.sheet.proofs.Writing.{Writing, opened, wrote_one, wrote_two, roomy, roomy_one, roomy_two, overlaid_is, sized_ok, sized_two, written_ok}
+use Rattle.std.proofs.Common.{◌+◌, ◌<◌, length, get_or, set, sym, refl, arith, length-set, rules}
+use Rattle.sheet.proofs.Writing.{opened, wrote_one, wrote_two, roomy, roomy_one, roomy_two, overlaid_is, sized_ok, sized_two, written_ok}
 use Rattle.sheet.proofs.quote.put_quoted.Goals as goal
 use Rattle.sheet.proofs.quote.put_quoted.Goals.{then-c-eq-QUOTE, else-c-eq-QUOTE}
 

@@ -1,4 +1,4 @@
-use Rattle.std.proofs.Common.{◌≡◌, ℕ, ◌+◌, ◌<◌, ◌≤◌, length, get_or, drop, Ok, Err, sym, refl, ap, ◌∙◌, subst, arith, rules}
+use Rattle.std.proofs.Common.{◌≡◌, ℕ, ◌+◌, length, get_or, Err, sym, refl, ap, ◌∙◌, subst, arith, rules}
 use Rattle.sheet.proofs.Writing.{Counting, counted, uncounted, all_counted, one, two}
 use Rattle.sheet.proofs.quote.quoted_size.Goals as goal
 use Rattle.sheet.proofs.quote.quoted_size.Goals.{then-c-eq-QUOTE, else-c-eq-QUOTE}

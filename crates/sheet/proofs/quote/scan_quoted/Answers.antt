@@ -1,4 +1,4 @@
-use Rattle.std.proofs.Common.{◌≡◌, ℕ, ◌+◌, ◌<◌, length, Ok, Err, sym, ap, ◌∙◌, subst, arith, rules}
+use Rattle.std.proofs.Common.{◌≡◌, ℕ, ◌+◌, ◌<◌, length, Err, sym, ap, ◌∙◌, subst, arith, rules}
 use Rattle.sheet.proofs.Reading.{Reading, begun, unopened, plain_more, quote_more, unprintable_stops, closed_empty, closed_full, ran_out, printable_some}
 use Rattle.sheet.proofs.quote.scan_quoted.Goals as goal
 use Rattle.sheet.proofs.quote.scan_quoted.Goals.{then-b-ne-QUOTE+else-not-is_printable, else-b-ne-QUOTE+then-byte_at-eq-QUOTE}

@@ -1,4 +1,4 @@
-use Rattle.std.proofs.Common.{◌⊎◌, inl, inr, arith, rules}
+use Rattle.std.proofs.Common.{inl, inr, arith}
 use Rattle.sheet.proofs.Sameness.{behind_quote, behind_one}
 use Rattle.sheet.proofs.same.behind_byte.Goals as goal
 

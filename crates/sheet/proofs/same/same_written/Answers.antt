@@ -1,4 +1,4 @@
-use Rattle.std.proofs.Common.{sym, ◌∙◌, arith, rules}
+use Rattle.std.proofs.Common.{sym, ◌∙◌, arith}
 use Rattle.sheet.proofs.Sameness.{alike_on, unlike, first_over, other_over}
 use Rattle.sheet.proofs.same.same_written.Goals as goal
 use Rattle.sheet.proofs.same.same_written.Goals.{then-loop-i-test+else-j-b, else-loop-i-test}

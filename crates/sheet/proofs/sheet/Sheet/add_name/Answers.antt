@@ -1,9 +1,8 @@
 use Rattle.std.proofs.Common.{◌≡◌, ℕ, ◌<◌, List, [], ◌∷◌, ◌++◌, map, length, sym, refl, ap, ◌∙◌, arith, rules}
 use Rattle.std.proofs.lemmas.List.{map_push}
-use Rattle.sheet.specs.Format.{Contents}
 use Rattle.sheet.specs.Part.{part, text_at}
 use Rattle.sheet.specs.Text.{inner}
-use Rattle.sheet.specs.View.{source, view, written_names}
+use Rattle.sheet.specs.View.{source, view}
 use Rattle.sheet.proofs.Filling.{filled_more}
 use Rattle.sheet.proofs.Viewing.{room_for_name}
 use Rattle.sheet.proofs.sheet.Sheet.add_name.Goals as goal

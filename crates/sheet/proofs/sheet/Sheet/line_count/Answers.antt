@@ -1,4 +1,4 @@
-use Rattle.std.proofs.Common.{◌≡◌, length, sym, ap, arith}
+use Rattle.std.proofs.Common.{length, ap, arith}
 use Rattle.sheet.proofs.Echoing.{many_lines}
 use Rattle.sheet.proofs.sheet.Sheet.line_count.Goals as goal
 

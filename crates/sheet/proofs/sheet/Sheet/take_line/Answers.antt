@@ -1,9 +1,9 @@
-use Rattle.std.proofs.Common.{◌≡◌, ℕ, take, drop, Ok, sym, ap, ◌∙◌, subst, w32, SFits, rules}
+use Rattle.std.proofs.Common.{◌≡◌, take, drop, Ok, sym, ap, ◌∙◌, subst, w32, SFits, rules}
 use Rattle.std.proofs.lemmas.Int.{to_z-of_z}
 use Rattle.sheet.specs.declared.section.Section.{Section}
 use Rattle.sheet.specs.Format.{Contents, with_name, with_ask}
 use Rattle.sheet.specs.Part.{text_at}
-use Rattle.sheet.specs.Sections.{judged_line, Roomy}
+use Rattle.sheet.specs.Sections.{Roomy}
 use Rattle.sheet.specs.View.{source, view}
 use Rattle.sheet.proofs.Taking.{took_name, took_ask, room_for_names, room_for_asks}
 use Rattle.sheet.proofs.sheet.Sheet.take_line.Goals as goal

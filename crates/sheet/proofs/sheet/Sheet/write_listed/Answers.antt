@@ -1,7 +1,6 @@
-use Rattle.std.proofs.Common.{◌≡◌, ℕ, ◌-◌, ◌<◌, ◌≤◌, [], ◌++◌, length, get_or, codes, sym, refl, ap, ◌∙◌, arith}
+use Rattle.std.proofs.Common.{◌-◌, [], ◌++◌, get_or, codes, ap, ◌∙◌, arith}
 use Rattle.lines.specs.Lines.{text_line}
 use Rattle.sheet.specs.Lines.{name_lines_of, asked_lines_of}
-use Rattle.sheet.specs.View.{view}
 use Rattle.sheet.proofs.Echoing.{fits_as, changes_as, asked_at, name_line_at, no_gap}
 use Rattle.sheet.proofs.sheet.Sheet.write_listed.Goals as goal
 
