@@ -1,11 +1,10 @@
 -- Words from bytes, one turn of a loop and the way back.
-use Rattle.std.proofs.Common.{◌≡◌, ℕ, zero, suc, ◌+◌, ◌*◌, ◌/◌, ◌%◌, ◌<◌, ◌≤◌, Bool, true, false, cond, ◌&&◌, eqb, leb, List, [], ◌∷◌, ◌++◌, length, get_or, drop, Ok, Err, Result, sym, refl, ap, ◌∙◌, append_assoc, append-nil, arith, length-append}
+use Rattle.std.proofs.Common.{◌≡◌, ℕ, zero, suc, ◌+◌, ◌*◌, ◌/◌, ◌%◌, ◌<◌, ◌≤◌, ◌&&◌, eqb, leb, List, [], ◌∷◌, ◌++◌, length, get_or, drop, sym, refl, ap, ◌∙◌, append_assoc, append-nil, arith, length-append}
 use Rattle.std.specs.List.{flat_map}
 use Rattle.std.proofs.lemmas.List.{drop_more, drop_all}
 use Rattle.std.proofs.lemmas.Bool.{and_parts, eqb-true, lt-ltb, cond-true}
-use Rattle.base.specs.declared.refusal.Refusal.{Refusal}
-use Rattle.arrayvec.specs.Items.{pushed}
-use Rattle.image.specs.Bytes.{word, assembled, words_in, word_bytes, BytesBack}
+use Rattle.array_list.specs.Items.{pushed}
+use Rattle.image.specs.Bytes.{word, assembled, word_bytes, BytesBack}
 use Rattle.image.proofs.Describing.{cond_ok}
 
 -- the next four bytes

@@ -1,9 +1,9 @@
 -- Instructions and blocks as they are written.
-use Rattle.std.proofs.Common.{◌≡◌, ℕ, zero, suc, ◌+◌, ◌-◌, ◌<◌, ◌≤◌, Bool, true, false, cond, ◌&&◌, eqb, ltb, leb, ◌↔◌, List, [], ◌∷◌, ◌++◌, length, get_or, Some, None, Ok, Err, sym, refl, ap, ◌∙◌, subst, inl, inr, append_assoc, append-nil, arith, length-append}
+use Rattle.std.proofs.Common.{◌≡◌, ℕ, zero, suc, ◌+◌, ◌-◌, ◌<◌, ◌≤◌, Bool, true, false, ◌&&◌, eqb, leb, ◌↔◌, List, [], ◌∷◌, ◌++◌, length, get_or, Ok, sym, refl, ap, ◌∙◌, subst, inl, inr, append-nil, arith, length-append}
 use mathlib.Core.Bool.{beq}
 use Rattle.std.specs.List.{flat_map, AllByRecursion as All}
 use Rattle.std.proofs.lemmas.List.{length-map}
-use Rattle.std.proofs.lemmas.Bool.{and_parts, and_from, leb-true, le-leb, lt-ltb, le-ltb, eqb-true, eqb-false, eq-eqb, ne_eqb, cond-true, cond-false, cases_lt}
+use Rattle.std.proofs.lemmas.Bool.{and_parts, and_from, leb-true, le-leb, lt-ltb, le-ltb, eqb-true, eq-eqb, cond-true, cond-false, cases_lt}
 use Rattle.image.specs.declared.counts.Counts.{Counts}
 use Rattle.image.specs.declared.instruction.Instruction.{Instruction}
 use Rattle.image.specs.declared.instruction.Instruction.TheVariants.{Int, Truth, Name, Param, Free, Local, New, Op, Send, Object, Make, Choose, Tell, Ask, Ret}
@@ -11,11 +11,11 @@ use Rattle.image.specs.declared.types.TypeCode.{TypeCode}
 use Rattle.image.specs.Codes.{code_word}
 use Rattle.image.specs.Encoded.{encoded, OperandsFit}
 use Rattle.image.specs.Format.{values_words, code_words, block_words, EndsByRet, BlockFits, BlocksFit}
-use Rattle.image.specs.Layout.{Block, operand, operands, opcode_stands, opened, instruction, instructions, values, block, after_block}
+use Rattle.image.specs.Layout.{Block, operand, operands, opcode_stands, opened, instruction, instructions, block, after_block}
 use Rattle.image.specs.Opcodes.{Form, unknown, bare, one, two, form_of, shape}
-use Rattle.image.specs.Readers.{Read, Reader, ◌>>=◌, and_then, done, here, number, count, chain}
-use Rattle.image.proofs.Coding.{In, Right, Entry, Built, by_none, by_one, by_two, entry, built}
-use Rattle.image.proofs.Describing.{Stands, Describes, Follow, stands_none, stands_join, stands_cut, ok_parts, ok_not_err, then_ok, cond_ok, number_d, count_d, said_d, done_d, here_d, then_d, chain_d}
+use Rattle.image.specs.Readers.{Read, ◌>>=◌, and_then, done, here, number, chain}
+use Rattle.image.proofs.Coding.{Entry, Built, by_none, by_one, by_two, entry, built}
+use Rattle.image.proofs.Describing.{Stands, Describes, Follow, stands_join, stands_cut, ok_parts, ok_not_err, then_ok, cond_ok, number_d, count_d, said_d, then_d, chain_d}
 use Rattle.image.proofs.Written.{values_d}
 
 -- ---- one instruction
@@ -107,25 +107,25 @@ module _ (n : Counts) (end : ℕ) (words : List ℕ) (at : ℕ) where
 
   -- the operands behind an opcode
   operands_sound : (o : ℕ) (f : Form) → Entry o f → Stands words at (o ∷ []) (at + 1) → opcode_stands end at o (shape f) ≡ true → (i : Instruction) (to : ℕ) → operands n f words (at + 1) ≡ Ok (i, to) → There i to
-  operands_sound o unknown right here test i to e = absurd (ok_not_err e)
-  operands_sound o (bare j) right here test i to e =
+  operands_sound o unknown right stood test i to e = absurd (ok_not_err e)
+  operands_sound o (bare j) right stood test i to e =
       let r = right n in
       subst (λ (v : Instruction × ℕ). There v.0 v.1) (ok_parts e)
-      (subst (λ l. Stands words at l (at + 1)) (sym r.written) here, placed_from n end at o 1 j [] r.written (ap length r.written) r.fit test)
-  operands_sound o (one k f) right here test i to e =
+      (subst (λ l. Stands words at l (at + 1)) (sym r.written) stood, placed_from n end at o 1 j [] r.written (ap length r.written) r.fit test)
+  operands_sound o (one k f) right stood test i to e =
       let a = then_ok (operand n k words (at + 1)) _ e in
       let one = (number_d _ _ words (at + 1) a.0 a.1).0 a.2 in
       let r = right n a.0 (record { low = one.1.0; high = one.1.1 }) in
       subst (λ (v : Instruction × ℕ). There v.0 v.1) (ok_parts a.3)
-      (subst (λ l. Stands words at l a.1) (sym r.written) (stands_join (o ∷ []) (a.0 ∷ []) here one.0), placed_from n end at o 2 (f a.0) (a.0 ∷ []) r.written (ap length r.written) r.fit test)
-  operands_sound o (two k l f) right here test i to e =
+      (subst (λ l. Stands words at l a.1) (sym r.written) (stands_join (o ∷ []) (a.0 ∷ []) stood one.0), placed_from n end at o 2 (f a.0) (a.0 ∷ []) r.written (ap length r.written) r.fit test)
+  operands_sound o (two k l f) right stood test i to e =
       let a = then_ok (operand n k words (at + 1)) _ e in
       let b = then_ok (operand n l words a.1) _ a.3 in
       let one = (number_d _ _ words (at + 1) a.0 a.1).0 a.2 in
       let two = (number_d _ _ words a.1 b.0 b.1).0 b.2 in
       let r = right n a.0 b.0 (record { low = one.1.0; high = one.1.1 }) (record { low = two.1.0; high = two.1.1 }) in
       subst (λ (v : Instruction × ℕ). There v.0 v.1) (ok_parts b.3) (
-        subst (λ l. Stands words at l b.1) (sym r.written) (stands_join (o ∷ []) (a.0 ∷ b.0 ∷ []) here (stands_join (a.0 ∷ []) (b.0 ∷ []) one.0 two.0)),
+        subst (λ l. Stands words at l b.1) (sym r.written) (stands_join (o ∷ []) (a.0 ∷ b.0 ∷ []) stood (stands_join (a.0 ∷ []) (b.0 ∷ []) one.0 two.0)),
         placed_from n end at o 3 (f a.0 b.0) (a.0 ∷ b.0 ∷ []) r.written (ap length r.written) r.fit test,
       )
 
@@ -139,8 +139,8 @@ module _ (n : Counts) (end : ℕ) (words : List ℕ) (at : ℕ) where
 
   -- an opcode that is read, and what its form makes of the words behind it
   from_opcode : (o : ℕ) (f : Form) → form_of o ≡ f → o < 4294967296 → Stands words at (o ∷ []) (at + 1) → opcode_stands end at o (shape f) ≡ true → (r : Read Instruction) → operands n f words (at + 1) ≡ r → instruction n end words at ≡ r
-  from_opcode o f is small here test r e =
-      ap (λ v. and_then v (λ o to. opened n end at o words to)) ((number_d 0 4294967296 words at o (at + 1)).1 (here, (omega arith, small)))
+  from_opcode o f is small stood test r e =
+      ap (λ v. and_then v (λ o to. opened n end at o words to)) ((number_d 0 4294967296 words at o (at + 1)).1 (stood, (omega arith, small)))
       ∙ cond-true _ _ _ (ap (λ g. opcode_stands end at o (shape g)) is ∙ test) ∙ ap (λ g. operands n g words (at + 1)) is ∙ e
 
   instruction_complete : (i : Instruction) (to : ℕ) → There i to → Built n i → instruction n end words at ≡ Ok (i, to)

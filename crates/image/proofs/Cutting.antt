@@ -1,5 +1,5 @@
 -- A record that is cut off is refused at the image's length.
-use Rattle.std.proofs.Common.{◌≡◌, ℕ, zero, suc, ◌+◌, ◌<◌, ◌≤◌, Bool, true, false, cond, ◌&&◌, eqb, ltb, leb, List, [], ◌∷◌, ◌++◌, length, get_or, Ok, Err, Result, sym, refl, ap, ◌∙◌, subst, arith}
+use Rattle.std.proofs.Common.{◌≡◌, ℕ, zero, suc, ◌+◌, Bool, true, false, cond, ◌&&◌, eqb, ltb, leb, List, length, get_or, Ok, Err, Result, sym, refl, ap, ◌∙◌, subst, arith}
 use Rattle.std.proofs.lemmas.Bool.{ltb-true}
 use Rattle.base.specs.declared.refusal.Cause.{Cause}
 use Rattle.base.specs.declared.refusal.Cause.TheVariants.{ImageSize, NumberRange, RecordEnd, LabelOrder, Opcode}
@@ -7,9 +7,9 @@ use Rattle.base.specs.declared.refusal.Refusal.{Refusal}
 use Rattle.base.specs.Refusals.{refused}
 use Rattle.image.specs.declared.counts.Counts.{Counts}
 use Rattle.image.specs.Format.{record_words, EndsWrong, cut_off, left_over, RecordEnds}
-use Rattle.image.specs.Layout.{Structure, label, code, values, method, after_method, type_record, operands, opcode_stands, instruction, instructions, block, after_block, pair, after_pair, table, counts, total, records, ended, sized, layout}
+use Rattle.image.specs.Layout.{Structure, label, code, values, method, after_method, type_record, operands, opcode_stands, instruction, instructions, block, after_block, pair, after_pair, table, counts, total, records, ended, sized}
 use Rattle.image.specs.Opcodes.{Form, unknown, bare, one, two, form_of, shape, least, limit}
-use Rattle.image.specs.Readers.{Read, Reader, ◌>>=◌, and_then, done, number, chain}
+use Rattle.image.specs.Readers.{Read, Reader, ◌>>=◌, and_then, number, chain}
 use Rattle.image.proofs.Describing.{Stands}
 use Rattle.image.proofs.Formatting.{body_stands}
 

@@ -1,5 +1,5 @@
 -- Decoding undoes encoding, and nothing else is decoded.
-use Rattle.std.proofs.Common.{◌≡◌, ℕ, ◌-◌, ◌<◌, ◌≤◌, Bool, true, false, cond, ◌&&◌, List, [], ◌∷◌, ◌++◌, length, get_or, take, drop, ℤ, Some, None, Option, sym, refl, ap, ◌∙◌, subst, arith, w32, to_z, of_z}
+use Rattle.std.proofs.Common.{◌≡◌, ℕ, ◌-◌, ◌<◌, ◌≤◌, Bool, true, false, ◌&&◌, List, [], ◌∷◌, ◌++◌, length, get_or, take, drop, ℤ, Some, None, Option, sym, refl, ap, ◌∙◌, subst, arith, w32, to_z, of_z}
 use Rattle.std.proofs.lemmas.Int.{of_z-to_z}
 use Rattle.std.proofs.lemmas.Bool.{and_parts, and_from}
 use Rattle.image.specs.declared.instruction.Instruction.{Instruction}
@@ -7,7 +7,7 @@ use Rattle.image.specs.declared.instruction.Instruction.TheVariants.{Int}
 use Rattle.image.specs.declared.operand.Operand.TheVariants.{Word}
 use Rattle.image.specs.Encoded.{encoded, OperandsFit, Decodes}
 use Rattle.image.specs.Opcodes.{Form, unknown, bare, one, two, form_of, in_range, widest, taken_if, before, filled, decoded}
-use Rattle.image.proofs.Coding.{In, Right, Entry, Built, by_none, by_one, by_two, entry, built, in_from, in_true}
+use Rattle.image.proofs.Coding.{Right, Entry, Built, by_none, by_one, by_two, entry, built, in_from, in_true}
 use Rattle.image.proofs.Front.{front_two}
 
 abbrev Found : Type 0

@@ -1,11 +1,10 @@
 -- A reader describes an encoder: it answers a value exactly where the words of that value stand and it fits there. Ways to put such readers together.
-use Rattle.std.proofs.Common.{◌≡◌, ℕ, zero, suc, ◌+◌, ◌<◌, ◌≤◌, Bool, true, false, cond, ◌&&◌, ltb, leb, ◌↔◌, List, [], ◌∷◌, ◌++◌, map, length, get_or, drop, Ok, Err, Result, sym, refl, ap, ◌∙◌, subst, append_assoc, append-nil, arith, length-append, length-drop}
-use Rattle.std.specs.List.{flat_map, AllByRecursion as All}
+use Rattle.std.proofs.Common.{◌≡◌, ℕ, zero, suc, ◌+◌, ◌<◌, ◌≤◌, Bool, true, false, cond, ◌&&◌, ltb, leb, ◌↔◌, List, [], ◌∷◌, ◌++◌, length, get_or, drop, Ok, Err, Result, sym, refl, ap, ◌∙◌, subst, append_assoc, arith, length-append, length-drop}
+use Rattle.std.specs.List.{flat_map}
 use Rattle.std.proofs.lemmas.List.{drop-drop, drop_at, drop_more}
 use Rattle.std.proofs.lemmas.Bool.{and_parts, and_from, ltb-true, leb-true, lt-ltb, le-leb, cond-true}
 use Rattle.base.specs.declared.refusal.Refusal.{Refusal}
 use Rattle.image.specs.Readers.{Read, Reader, ◌>>=◌, and_then, done, here, number, count, chain}
-use Rattle.image.specs.Layout.{many}
 
 -- the piece stands in the words from at on, and ends at to
 pub record Stands (words : List ℕ) (at : ℕ) (piece : List ℕ) (to : ℕ) : Type 0 where

@@ -1,16 +1,14 @@
 -- An image is accepted exactly when it is the encoding of a structure that fits.
-use Rattle.std.proofs.Common.{◌≡◌, ℕ, zero, suc, ◌+◌, ◌<◌, ◌≤◌, Bool, true, false, cond, ◌&&◌, eqb, ltb, leb, ◌↔◌, List, [], ◌∷◌, ◌++◌, length, get_or, drop, Ok, Err, Result, sym, refl, ap, ◌∙◌, subst, inl, inr, append-nil, arith, length-drop}
+use Rattle.std.proofs.Common.{◌≡◌, ℕ, ◌+◌, ◌≤◌, Bool, true, false, cond, eqb, ltb, leb, List, [], ◌∷◌, ◌++◌, length, get_or, drop, Ok, Err, Result, sym, refl, ap, ◌∙◌, subst, append-nil, arith, length-drop}
 use Rattle.std.specs.List.{flat_map, AllByRecursion as All}
 use Rattle.std.proofs.lemmas.List.{drop_all, drop_more}
 use Rattle.std.proofs.lemmas.Bool.{and_parts, and_from, leb-true, le-leb, le-ltb, ltb-false, eqb-true, eq-eqb, cond-true, cond-false}
 use Rattle.base.specs.declared.refusal.Refusal.{Refusal}
-use Rattle.base.specs.Refusals.{refused}
-use Rattle.base.specs.declared.refusal.Cause.TheVariants.{RecordEnd}
 use Rattle.image.specs.declared.counts.Counts.{Counts}
 use Rattle.image.specs.Format.{type_words, block_words, table_words, record_words, image_words, counts_of, TypeFits, BlocksFit, TablesFit, Fits, AcceptsExactly}
-use Rattle.image.specs.Layout.{Method, Block, Table, Structure, many, type_record, block, after_block, table, counts, total, records, ended, sized, layout}
-use Rattle.image.specs.Readers.{Read, Reader, ◌>>=◌, and_then, done, count, chain}
-use Rattle.image.proofs.Describing.{Stands, Describes, ok_parts, ok_not_err, then_ok, cond_ok, stands_join, stands_cut, count_d, said_d, done_d, then_d}
+use Rattle.image.specs.Layout.{Method, Block, Table, Structure, type_record, counts, total, records, ended, sized, layout}
+use Rattle.image.specs.Readers.{Read, ◌>>=◌, and_then}
+use Rattle.image.proofs.Describing.{Stands, Describes, ok_parts, ok_not_err, then_ok, cond_ok, count_d, said_d, done_d, then_d}
 use Rattle.image.proofs.Written.{type_d, many_d, tables_d}
 use Rattle.image.proofs.Coded.{blocks_d}
 

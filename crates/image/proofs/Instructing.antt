@@ -1,5 +1,5 @@
 -- The instructions of a block, by the places behind them.
-use Rattle.std.proofs.Common.{◌≡◌, ℕ, zero, suc, ◌+◌, ◌-◌, ◌<◌, ◌≤◌, Bool, true, false, cond, not, ◌&&◌, eqb, ltb, leb, List, [], ◌∷◌, Some, None, Ok, Err, Option, Result, sym, refl, ap, ◌∙◌, arith}
+use Rattle.std.proofs.Common.{◌≡◌, ℕ, zero, suc, ◌+◌, ◌-◌, ◌<◌, ◌≤◌, Bool, true, false, not, ◌&&◌, eqb, List, ◌∷◌, Some, Ok, Err, Option, sym, refl, ap, ◌∙◌, arith}
 use mathlib.Core.Bool.{beq}
 use Rattle.std.proofs.lemmas.Bool.{lt-ltb, le-ltb, le-leb, cond-true, cond-false}
 use Rattle.base.specs.declared.refusal.Refusal.{Refusal}
@@ -10,7 +10,7 @@ use Rattle.image.specs.declared.operand.Shape.TheVariants.{Bare, One, Two}
 use Rattle.image.specs.Layout.{operand, operands, opcode_stands, opened, instruction, instructions}
 use Rattle.image.specs.Opcodes.{Form, unknown, bare, one, two, form_of, shape, size}
 use Rattle.image.specs.Operands.{checked}
-use Rattle.image.specs.Readers.{Read, Reader, and_then, number, behind}
+use Rattle.image.specs.Readers.{Read, and_then, number, behind}
 
 -- what is made of a value last leaves the place behind it
 pub behind_last : {X Y : Type 0} (r : Read X) (f : X → Y) → behind (and_then r (λ x to. Ok (f x, to))) ≡ behind r

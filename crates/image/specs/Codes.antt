@@ -1,6 +1,5 @@
 -- Type codes and operators as words.
 use Rattle.std.specs.Prelude.{ℕ, zero, suc, ◌+◌, ◌<◌, List, [], ◌∷◌, slice_index_or}
-use Rattle.image.specs.declared.types.TypeId.{TypeId}
 use Rattle.image.specs.declared.types.TypeCode.{TypeCode}
 use Rattle.image.specs.declared.types.TypeCode.TheVariants.{Integer, Truth, Name, Channel}
 use Rattle.image.specs.declared.instruction.Operator.{Operator}

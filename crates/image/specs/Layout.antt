@@ -1,5 +1,5 @@
 -- The layout of an image, in the order of reading: each word is judged as it is read, so the first broken rule is the one refused.
-use Rattle.std.specs.Prelude.{ℕ, zero, suc, ◌+◌, ◌^◌, Bool, true, false, cond, ◌&&◌, List, [], ◌∷◌, length, Some, None, Ok, Err, Option, Result, ◌==◌, nat_le, nat_lt, slice_index}
+use Rattle.std.specs.Prelude.{ℕ, zero, suc, ◌+◌, ◌^◌, Bool, false, cond, ◌&&◌, List, [], ◌∷◌, length, Some, None, Ok, Err, Option, Result, ◌==◌, nat_le, nat_lt, slice_index}
 use Rattle.std.specs.Bool.{beq}
 use Rattle.base.specs.declared.ids.Label.{Label}
 use Rattle.base.specs.declared.refusal.Cause.TheVariants.{ImageSize, RecordEnd, LabelOrder, Opcode}
@@ -13,7 +13,7 @@ use Rattle.image.specs.declared.records.Pair.{Pair}
 use Rattle.image.specs.declared.types.TypeCode.{TypeCode}
 use Rattle.image.specs.Codes.{code_of}
 use Rattle.image.specs.Opcodes.{Form, unknown, bare, one, two, form_of, shape, size, least, limit}
-use Rattle.image.specs.Readers.{Read, Reader, ◌>>=◌, and_then, done, here, number, count, chain}
+use Rattle.image.specs.Readers.{Read, Reader, ◌>>=◌, done, here, number, count, chain}
 
 -- ---- what an image says
 

@@ -4,14 +4,14 @@ use Rattle.base.specs.declared.refusal.Refusal.{Refusal}
 use Rattle.image.specs.declared.counts.Counts.{Counts}
 use Rattle.image.specs.declared.image.Image.{Image}
 use Rattle.image.specs.declared.instruction.Instruction.{Instruction}
-use Rattle.arrayvec.specs.Items.{items}
+use Rattle.array_list.specs.Items.{items}
 use Rattle.image.specs.declared.records.BlockRecord.{BlockRecord}
 use Rattle.image.specs.declared.records.Method.{Method}
 use Rattle.image.specs.declared.records.TableRecord.{TableRecord}
 use Rattle.image.specs.declared.types.TypeCode.{TypeCode}
 use Rattle.image.specs.Layout as layout
 use Rattle.image.specs.Opcodes.{decoded}
-use Rattle.arrayvec.specs.declared.list.ArrayVec.{ArrayVec}
+use Rattle.array_list.specs.declared.list.ArrayVec.{ArrayVec}
 
 abbrev pub seen_method : Method → layout.Method
 seen_method m = record { label = m.label; codes = items m.codes }

@@ -12,7 +12,7 @@ use crate::operand::{Operand, Shape};
 use crate::reader::{read_count, read_number, read_values};
 use crate::records::{BlockRecord, BlockRecords};
 use crate::types::TypeCode;
-use arrayvec::ArrayVec;
+use array_list::ArrayVec;
 use base::{Cause, Refusal};
 
 fn read_operand(

@@ -1,11 +1,11 @@
 // Words from bytes.
-ghost use Rattle.arrayvec.specs.Items.{items};
+ghost use Rattle.array_list.specs.Items.{items};
 ghost use Rattle.image.specs.Bytes.{BytesBack, assembled, words_in};
 ghost use Rattle.image.specs.View.{read_as};
 ghost use Rattle.std.specs.Prelude.{◌≡◌, ◌*◌, ◌≤◌, length};
 
 use crate::limits::MAX_WORDS;
-use arrayvec::ArrayVec;
+use array_list::ArrayVec;
 use base::{Cause, Refusal};
 
 // As many words as an image may have.

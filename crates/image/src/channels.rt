@@ -2,14 +2,14 @@
 ghost use Rattle.image.specs.Layout.{many, method as one_method, type_record};
 ghost use Rattle.image.specs.Readers.{kept};
 ghost use Rattle.image.specs.View.{seen_method, seen_type, seen_types};
-ghost use Rattle.arrayvec.specs.Items.{items};
+ghost use Rattle.array_list.specs.Items.{items};
 ghost use Rattle.std.specs.Prelude.{◌≡◌, ◌≤◌, []};
 
 use crate::limits::*;
 use crate::reader::{read_count, read_label, read_values};
 use crate::records::{Method, TypeRecord, TypeRecords};
 use crate::types::TypeCode;
-use arrayvec::ArrayVec;
+use array_list::ArrayVec;
 use base::{Label, Refusal};
 
 // A method whose label is not below `low`.

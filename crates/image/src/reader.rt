@@ -3,13 +3,13 @@
 ghost use Rattle.image.specs.Codes.{code_of};
 ghost use Rattle.image.specs.Layout.{code as type_code, label as label_from, values};
 ghost use Rattle.image.specs.Readers.{count, kept, number};
-ghost use Rattle.arrayvec.specs.Items.{items};
+ghost use Rattle.array_list.specs.Items.{items};
 ghost use Rattle.std.specs.Prelude.{◌≡◌, ◌+◌, ◌<◌, ◌≤◌, length, IfOk};
 
 use crate::limits::*;
 use crate::records::TypeCodes;
 use crate::types::{TypeCode, TypeId};
-use arrayvec::ArrayVec;
+use array_list::ArrayVec;
 use base::{Cause, Label, Refusal};
 
 // A number from `low` on and below `limit`.

@@ -1,6 +1,6 @@
 // The records of an image as they are kept in memory.
 use crate::types::TypeCode;
-use arrayvec::ArrayVec;
+use array_list::ArrayVec;
 use base::{BlockId, Label};
 
 // The types of up to eight values.

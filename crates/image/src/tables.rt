@@ -1,5 +1,5 @@
 // Method tables.
-ghost use Rattle.arrayvec.specs.Items.{items};
+ghost use Rattle.array_list.specs.Items.{items};
 ghost use Rattle.image.specs.Layout.{after_pair, many, pair as one_pair, table as «one_table»};
 ghost use Rattle.image.specs.Readers.{chain, kept};
 ghost use Rattle.image.specs.View.{seen_table, seen_tables};
@@ -8,7 +8,7 @@ ghost use Rattle.std.specs.Prelude.{◌≡◌, ◌≤◌, []};
 use crate::limits::*;
 use crate::reader::{read_count, read_label, read_number};
 use crate::records::{Pair, Pairs, TableRecord, TableRecords};
-use arrayvec::ArrayVec;
+use array_list::ArrayVec;
 use base::{BlockId, Label, Refusal};
 
 // A pair whose label is not below `low`, where there are so many blocks.

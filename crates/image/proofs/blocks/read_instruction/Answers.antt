@@ -4,6 +4,6 @@ use Rattle.image.proofs.blocks.read_instruction.Goals as goal
 
 pub returns : goal.returns
 returns c = record {
-  value = c.read-operands.ensures.value ∙ instructed c.args.counts c.args.end c.args.words.now c.args.at c.in-ok-opcode.ensures.value c.in-Some.ensures (omega arith) (search rules);
+  value = c.read_operands.ensures.value ∙ instructed c.args.counts c.args.end c.args.words.now c.args.at c.in_ok-opcode.ensures.value c.in-Some.ensures (omega arith) (search rules);
   on = search rules;
 }

@@ -1,4 +1,4 @@
-use Rattle.arrayvec.specs.Items.{items}
+use Rattle.array_list.specs.Items.{items}
 use Rattle.image.proofs.Assembling.{Turn}
 use Rattle.image.proofs.bytes.assemble.Given as goal
 

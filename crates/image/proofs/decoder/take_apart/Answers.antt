@@ -5,7 +5,7 @@ use Rattle.image.proofs.Front.{front_one, front_two, front_three}
 use Rattle.image.proofs.decoder.take_apart.Goals as goal
 
 pub returns-in-1 : goal.returns-in-1
-returns-in-1 c = int_first c.args.words.now (search rules) (search rules) (c.type-inv.words 1).fits c.cast-signed.ensures
+returns-in-1 c = int_first c.args.words.now (search rules) (search rules) (c.type_inv.words 1).fits c.cast_signed.ensures
 
 pub returns-in-2 : goal.returns-in-2
 returns-in-2 c = c.followed-in-2.ensures ∙ ap (before _) c.truth.ensures ∙ sym (ap decoded (front_two c.args.words.now 2 (search rules) (search rules)))
@@ -23,7 +23,7 @@ pub returns-in-6 : goal.returns-in-6
 returns-in-6 c = c.followed-in-6.ensures ∙ ap (before _) c.local.ensures ∙ sym (ap decoded (front_two c.args.words.now 6 (search rules) (search rules)))
 
 pub returns-in-7 : goal.returns-in-7
-returns-in-7 c = c.followed-in-7.ensures ∙ ap (before _) c.new-channel.ensures ∙ sym (ap decoded (front_two c.args.words.now 7 (search rules) (search rules)))
+returns-in-7 c = c.followed-in-7.ensures ∙ ap (before _) c.new_channel.ensures ∙ sym (ap decoded (front_two c.args.words.now 7 (search rules) (search rules)))
 
 pub returns-in-8 : goal.returns-in-8
 returns-in-8 c = c.followed-in-8.ensures ∙ ap (before _) c.op.ensures ∙ sym (ap decoded (front_two c.args.words.now 8 (search rules) (search rules)))

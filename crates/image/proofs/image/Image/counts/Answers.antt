@@ -1,6 +1,6 @@
-use Rattle.std.proofs.Common.{◌≡◌, ℕ, length, sym, ◌∙◌}
+use Rattle.std.proofs.Common.{sym, ◌∙◌}
 use Rattle.std.proofs.lemmas.List.{length-map}
-use Rattle.arrayvec.specs.Items.{items}
+use Rattle.array_list.specs.Items.{items}
 use Rattle.image.specs.View.{seen_type, seen_block, seen_table}
 use Rattle.image.proofs.image.Image.counts.Goals as goal
 

@@ -1,6 +1,6 @@
 use Rattle.std.proofs.Common.{ap, ◌∙◌}
 use Rattle.std.specs.List.{slice_get}
-use Rattle.arrayvec.specs.Items.{items}
+use Rattle.array_list.specs.Items.{items}
 use Rattle.image.specs.View.{seen_table}
 use Rattle.image.proofs.Viewing.{seen_nth}
 use Rattle.image.proofs.image.Image.table.Goals as goal

@@ -1,5 +1,5 @@
 // The list and its calls.
-ghost use Rattle.arrayvec.specs.Items.{items, pushed};
+ghost use Rattle.array_list.specs.Items.{items, pushed};
 ghost use Rattle.std.specs.Option.{option_map};
 ghost use Rattle.std.specs.List.{slice_get};
 ghost use Rattle.std.specs.Prelude.{◌≡◌, ◌≤◌, [], length};

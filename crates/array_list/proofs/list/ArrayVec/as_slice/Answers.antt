@@ -1,6 +1,6 @@
 use Rattle.std.proofs.Common.{rules}
-use Rattle.arrayvec.proofs.Slots.{part_is}
-use Rattle.arrayvec.proofs.list.ArrayVec.as_slice.Goals as goal
+use Rattle.array_list.proofs.Slots.{part_is}
+use Rattle.array_list.proofs.list.ArrayVec.as_slice.Goals as goal
 
 pub returns : goal.returns
 returns g c = record {

@@ -1,8 +1,8 @@
 -- Laws of the values that lie in the first slots.
-use Rattle.std.proofs.Common.{◌≡◌, ℕ, ◌+◌, ◌-◌, ◌<◌, ◌≤◌, min, cond, ltb, List, [], ◌∷◌, ◌++◌, length, take, set, sym, ap, ◌∙◌, inl, inr, arith, length-take-le}
+use Rattle.std.proofs.Common.{◌≡◌, ℕ, ◌+◌, ◌-◌, ◌<◌, ◌≤◌, min, List, length, take, set, sym, ap, ◌∙◌, inl, inr, arith, length-take-le}
 use Rattle.std.proofs.lemmas.List.{take_more_set, take_all}
 use Rattle.std.proofs.lemmas.Bool.{cases_lt, lt-ltb, le-ltb, cond-true, cond-false}
-use Rattle.arrayvec.specs.Items.{pushed}
+use Rattle.array_list.specs.Items.{pushed}
 
 -- a length past the slots says no more than all of them
 pub part_is : {X : Type 0} (xs : List X) (n len end : ℕ) → length xs ≡ n → end ≡ min len n → take (end - 0) xs ≡ take len xs

@@ -1,6 +1,6 @@
 use Rattle.std.proofs.Common.{rules}
-use Rattle.arrayvec.proofs.Slots.{push_taken, push_left}
-use Rattle.arrayvec.proofs.list.ArrayVec.push.Goals as goal
+use Rattle.array_list.proofs.Slots.{push_taken, push_left}
+use Rattle.array_list.proofs.list.ArrayVec.push.Goals as goal
 
 pub returns-then-self-slots : goal.returns-then-self-slots
 returns-then-self-slots g c = push_taken c.args.self.now.slots g.row.N _ _ (search rules) (search rules)

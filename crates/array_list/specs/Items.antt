@@ -1,6 +1,6 @@
 -- What a list in an array holds, and what one value more makes of that.
 use Rattle.std.specs.Prelude.{ℕ, cond, List, [], ◌∷◌, ◌++◌, length, take, nat_lt}
-use Rattle.arrayvec.specs.declared.list.ArrayVec.{ArrayVec}
+use Rattle.array_list.specs.declared.list.ArrayVec.{ArrayVec}
 
 -- the values that it holds, first to last
 abbrev pub items : {X : Type 0} {N : ℕ} → ArrayVec X N → List X
