@@ -1,7 +1,7 @@
 -- Instructions and blocks as they are written.
 use Rattle.std.proofs.Common.{◌≡◌, ℕ, zero, suc, ◌+◌, ◌-◌, ◌<◌, ◌≤◌, Bool, true, false, ◌&&◌, eqb, leb, ◌↔◌, List, [], ◌∷◌, ◌++◌, length, get_or, Ok, sym, refl, ap, ◌∙◌, subst, inl, inr, append-nil, arith, length-append}
 use mathlib.Core.Bool.{beq}
-use Rattle.std.specs.List.{flat_map, AllByRecursion as All}
+use Rattle.std.specs.List.{flat_map, AllByRecursion}
 use Rattle.std.proofs.lemmas.List.{length-map}
 use Rattle.std.proofs.lemmas.Bool.{and_parts, and_from, leb-true, le-leb, lt-ltb, le-ltb, eqb-true, eq-eqb, cond-true, cond-false, cases_lt}
 use Rattle.image.specs.declared.counts.Counts.{Counts}
@@ -168,7 +168,7 @@ instruction_d n end words at i to = (instruction_sound n end words at i to, λ h
 
 -- they fill the words up to the end, and ret is the last
 pub record CodeFits (n : Counts) (size : ℕ) (is : List Instruction) : Type 0 where
-  pub operands : All (OperandsFit n) is
+  pub operands : AllByRecursion (OperandsFit n) is
   pub ends : EndsByRet is
   pub fills : length (code_words is) ≡ size
 

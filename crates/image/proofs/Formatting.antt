@@ -1,6 +1,6 @@
 -- An image is accepted exactly when it is the encoding of a structure that fits.
 use Rattle.std.proofs.Common.{◌≡◌, ℕ, ◌+◌, ◌≤◌, Bool, true, false, cond, eqb, ltb, leb, List, [], ◌∷◌, ◌++◌, length, get_or, drop, Ok, Err, Result, sym, refl, ap, ◌∙◌, subst, append-nil, arith, length-drop}
-use Rattle.std.specs.List.{flat_map, AllByRecursion as All}
+use Rattle.std.specs.List.{flat_map, AllByRecursion}
 use Rattle.std.proofs.lemmas.List.{drop_all, drop_more}
 use Rattle.std.proofs.lemmas.Bool.{and_parts, and_from, leb-true, le-leb, le-ltb, ltb-false, eqb-true, eq-eqb, cond-true, cond-false}
 use Rattle.base.specs.declared.refusal.Refusal.{Refusal}
@@ -48,7 +48,7 @@ with_records ts bs ms n = record { types = ts; blocks = bs; tables = ms; names =
 -- a structure of so many records, written from a place on
 pub record RecordsFit (n : Counts) (at : ℕ) (s : Structure) : Type 0 where
   pub counted : counts_of s ≡ n
-  pub types : All (TypeFits n.types) s.types
+  pub types : AllByRecursion (TypeFits n.types) s.types
   pub blocks : BlocksFit n 0 (at + length (flat_map type_words s.types)) s.blocks
   pub tables : TablesFit n.blocks (at + length (flat_map type_words s.types) + length (flat_map block_words s.blocks)) s.tables
 

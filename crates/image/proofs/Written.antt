@@ -1,6 +1,6 @@
 -- Labels, type codes, values, type records and tables as they are written.
 use Rattle.std.proofs.Common.{◌≡◌, ℕ, zero, suc, ◌+◌, ◌<◌, leb, ◌↔◌, List, [], ◌∷◌, map, length, Ok, sym, refl, ap, ◌∙◌, subst, append-nil, arith}
-use Rattle.std.specs.List.{flat_map, AllByRecursion as All}
+use Rattle.std.specs.List.{flat_map, AllByRecursion}
 use Rattle.std.proofs.lemmas.Bool.{leb-true, le-leb, cond-true}
 use Rattle.base.specs.declared.ids.Label.{Label}
 use Rattle.image.specs.declared.records.Pair.{Pair}
@@ -63,15 +63,15 @@ module _ {X : Type 0} (item : Reader X) (written : X → List ℕ) (Fits : X →
   abbrev Each : ℕ → List X → Type 0
   Each at xs = Follow {S = Unit {0}} (λ _. item) (λ s _. s) written (λ _ _ x. Fits x) tt at xs
 
-  each_all : (at : ℕ) (xs : List X) → Each at xs → All Fits xs
+  each_all : (at : ℕ) (xs : List X) → Each at xs → AllByRecursion Fits xs
   each_all at [] h = tt
   each_all at (x ∷ xs) h = (h.0, each_all (at + length (written x)) xs h.1)
 
-  all_each : (at : ℕ) (xs : List X) → All Fits xs → Each at xs
+  all_each : (at : ℕ) (xs : List X) → AllByRecursion Fits xs → Each at xs
   all_each at [] h = tt
   all_each at (x ∷ xs) h = (h.0, all_each (at + length (written x)) xs h.1)
 
-  pub many_d : Describes item written (λ _ x. Fits x) → (n : ℕ) → Describes (many item n) (flat_map written) (λ _ xs. (length xs ≡ n) × All Fits xs)
+  pub many_d : Describes item written (λ _ x. Fits x) → (n : ℕ) → Describes (many item n) (flat_map written) (λ _ xs. (length xs ≡ n) × AllByRecursion Fits xs)
   many_d d n =
       said_d (chain_d {S = Unit {0}} (λ _. item) (λ s _. s) written (λ _ _ x. Fits x) (λ _. d) tt n) (λ xs. refl)
       (λ at xs. (λ h. (h.0, each_all at xs h.1), λ h. (h.0, all_each at xs h.1)))

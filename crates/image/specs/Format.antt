@@ -1,6 +1,6 @@
 -- The format as an encoder: the words of a structure, and which structures may be written. An image is accepted exactly when it is written so.
 use Rattle.std.specs.Prelude.{◌≡◌, ℕ, ◌+◌, ◌<◌, ◌≤◌, ◌↔◌, List, [], ◌∷◌, ◌++◌, map, length, drop, Ok, ◌≢◌}
-use Rattle.std.specs.List.{flat_map, AllByRecursion as All}
+use Rattle.std.specs.List.{flat_map, AllByRecursion}
 use Rattle.base.specs.declared.ids.Label.{Label}
 use Rattle.base.specs.declared.refusal.Cause.TheVariants.{RecordEnd}
 use Rattle.base.specs.Refusals.{refused}
@@ -54,7 +54,7 @@ counts_of s = record { types = length s.types; blocks = length s.blocks; tables 
 -- at most most values, their types known
 pub record ValuesFit (types most : ℕ) (cs : List TypeCode) : Type 0 where
   pub few : length cs ≤ most
-  pub known : All (CodeFits types) cs
+  pub known : AllByRecursion (CodeFits types) cs
 
 -- a label is a byte, from low on
 pub record LabelFits (low : ℕ) (l : Label) : Type 0 where
@@ -86,7 +86,7 @@ pub record BlockFits (n : Counts) (most at : ℕ) (b : Block) : Type 0 where
   pub free : ValuesFit n.types most b.free
   pub start : b.start ≡ at + length b.params + length b.free + 3
   pub short : length (code_words b.code) ≤ 1024
-  pub operands : All (OperandsFit n) b.code
+  pub operands : AllByRecursion (OperandsFit n) b.code
   pub ends : EndsByRet b.code
 
 -- one block behind another, the first of them with at most so many values, the others with eight
@@ -121,7 +121,7 @@ pub record Fits (s : Structure) : Type 0 where
   pub few_tables : length s.tables ≤ 128
   pub few_names : s.names ≤ 128
   pub short : length (image_words s) ≤ 8192
-  pub types : All (TypeFits (length s.types)) s.types
+  pub types : AllByRecursion (TypeFits (length s.types)) s.types
   pub blocks : BlocksFit (counts_of s) 0 (5 + length (flat_map type_words s.types)) s.blocks
   pub tables : TablesFit (length s.blocks) (5 + length (flat_map type_words s.types) + length (flat_map block_words s.blocks)) s.tables
 
