@@ -1,6 +1,7 @@
 // The program grade: reads job.sheet in the current folder and prints the sheet as it was
-// understood, or the three lines of the refusal. It rests on base, sheet and report, whose
-// contracts say which bytes each line has; what is read and printed is only tested.
+// understood, or the three lines of the refusal. It rests on base, sheet, report and
+// anyhow. The contracts of report and sheet say which bytes each line has; what is read and printed
+// is only tested.
 #![tactic(auto)]
 
 use anyhow::anyhow;

@@ -137,8 +137,8 @@ record_ends words place e = sized_case (sized words) refl
       where
         over : (b : Bool) → ltb v.1 (length words) ≡ b → cond b (refused RecordEnd v.1) (Ok v.0) ≡ refused RecordEnd place → EndsWrong words place
         over true test e =
-            let at-end : ◌≡◌ {A = Refusal} (record { cause = RecordEnd; place = v.1 }) (record { cause = RecordEnd; place = place }) = cc in
-            let here : v.1 ≡ place = ap (λ r. r.place) at-end in
+            let at_end : ◌≡◌ {A = Refusal} (record { cause = RecordEnd; place = v.1 }) (record { cause = RecordEnd; place = place }) = cc in
+            let here : v.1 ≡ place = ap (λ r. r.place) at_end in
             let stands = subst (λ p. Stands words 5 (record_words v.0) p) here (body_stands words v.0 v.1 is) in
             left_over v.0 stands.begins stands.ends (omega (arith, ltb-true v.1 (length words) test))
         over false test e = let z : ◌≡◌ {A = ℕ} 0 1 = cc in absurd (omega arith)

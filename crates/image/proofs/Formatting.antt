@@ -131,11 +131,11 @@ fronted n rest = n.types ∷ n.blocks ∷ n.tables ∷ n.names ∷ (5 + length r
 
 sound : (words : List ℕ) (s : Structure) → layout words ≡ Ok s → (words ≡ image_words s) × Fits s
 sound words s e =
-    let sized-so = cond_ok (sized words) _ _ e in
-    let long = and_parts (leb 5 (length words)) (leb (length words) 8192) sized-so.0 in
+    let sized_so = cond_ok (sized words) _ _ e in
+    let long = and_parts (leb 5 (length words)) (leb (length words) 8192) sized_so.0 in
     let least = leb-true 5 (length words) long.0 in
     let most = leb-true (length words) 8192 long.1 in
-    let whole = ended_ok words _ sized-so.1 in
+    let whole = ended_ok words _ sized_so.1 in
     let p = steps words s whole.0 whole.1 in
     let c = (counts_d words 0 p.n 4).0 p.front in
     let r = (records_d p.n words 5 s whole.0).0 p.body in

@@ -42,14 +42,14 @@ plain_means c = ap (λ l. record { style = c.style; names = c.names; asks = l })
 plain_fits : (s : Source) → Fits s → Fits (plain (meant s))
 plain_fits s fits =
     let values = map (resolved s.names) s.asks in
-    let in-range = All-map InRange (resolved s.names) s.asks (All-weaker _ _ (resolved_in_range s.names fits.few_names) s.asks (All-from_get_or _ s.asks _ fits.asks_answerable)) in
+    let in_range = All-map InRange (resolved s.names) s.asks (All-weaker _ _ (resolved_in_range s.names fits.few_names) s.asks (All-from_get_or _ s.asks _ fits.asks_answerable)) in
     record {
       style_is_text = fits.style_is_text;
       few_names = fits.few_names;
       names_are_texts = fits.names_are_texts;
       no_two_same = fits.no_two_same;
       few_asks = omega (arith, fits.few_asks, length-map values figure, length-map s.asks (resolved s.names));
-      asks_answerable = λ i h. All-get_or (Answerable s.names) (map figure values) i _ h (All-map (Answerable s.names) figure values in-range);
+      asks_answerable = λ i h. All-get_or (Answerable s.names) (map figure values) i _ h (All-map (Answerable s.names) figure values in_range);
     }
 
 joined_append : {X A : Type 0} (f : X → List A) (xs ys : List X) → flat_map f (xs ++ ys) ≡ flat_map f xs ++ flat_map f ys
@@ -61,7 +61,7 @@ joined_map f g [] = refl
 joined_map f g (x ∷ xs) = ap (λ l. f (g x) ++ l) (joined_map f g xs)
 
 -- two lines, a line for each x, one line more, and a line for each y, where equal lines may stand in their place
-joined_lines : {X Y A : Type 0} {a a' c c' all-x all-y : List A} (b : List A) (f : X → List A) (xs : List X) (g : Y → List A) (ys : List Y) → a ≡ a' → flat_map f xs ≡ all-x → c ≡ c' → flat_map g ys ≡ all-y → flat_map (λ l. l) (a ∷ b ∷ (map f xs ++ c ∷ map g ys)) ≡ a' ++ (b ++ (all-x ++ (c' ++ all-y)))
+joined_lines : {X Y A : Type 0} {a a' c c' all_x all_y : List A} (b : List A) (f : X → List A) (xs : List X) (g : Y → List A) (ys : List Y) → a ≡ a' → flat_map f xs ≡ all_x → c ≡ c' → flat_map g ys ≡ all_y → flat_map (λ l. l) (a ∷ b ∷ (map f xs ++ c ∷ map g ys)) ≡ a' ++ (b ++ (all_x ++ (c' ++ all_y)))
 joined_lines b f xs g ys first many next more =
     let rest = joined_append (λ l. l) (map f xs) (_ ∷ map g ys) ∙ (λ i. (joined_map (λ l. l) f xs ∙ many) i ++ (next i ++ (joined_map (λ l. l) g ys ∙ more) i)) in
     λ i. first i ++ (b ++ rest i)

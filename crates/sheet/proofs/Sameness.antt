@@ -42,8 +42,8 @@ module _ (a b : List ℕ) (i j k l : ℕ) (at_a : single false (drop i a) ≡ ge
   alike_on e = sym (one_on ∙ ap (λ v. v && left_alike a b k l) (eq-eqb (lower (get_or a i 0)) (lower (get_or b j 0)) e))
 
 pub unlike : (a b : List ℕ) (i j : ℕ) → i < length a → j < length b → (lower (get_or a i 0) ≡ lower (get_or b j 0) → ⊥) → left_alike a b i j ≡ false
-unlike a b i j in-a in_b e =
-    (λ t. same_text (first a i in-a t) (first b j in_b t))
+unlike a b i j in_a in_b e =
+    (λ t. same_text (first a i in_a t) (first b j in_b t))
     ∙ and_left _ _ (ne_eqb (lower (get_or a i 0)) (lower (get_or b j 0)) e)
 
 -- the first form is over: they are the same exactly if the other is over too
@@ -54,4 +54,4 @@ first_over a b i j over = elim (cases_lt j (length b)) [
 ]
 
 pub other_over : (a b : List ℕ) (i j : ℕ) → i < length a → length b ≤ j → leb (length a) i ≡ left_alike a b i j
-other_over a b i j in-a over = lt-leb (length a) i in-a ∙ sym (λ t. same_text (first a i in-a t) (single false (drop_all j b over t)))
+other_over a b i j in_a over = lt-leb (length a) i in_a ∙ sym (λ t. same_text (first a i in_a t) (single false (drop_all j b over t)))

@@ -1,6 +1,6 @@
 // The cases of the sheet reader: each line of standard input is a sheet in hexadecimal (- for an
-// empty one), each line of standard output its verdict. It rests on base and sheet, and is a test
-// only: the expected verdicts stand in the file stdout.
+// empty one), each line of standard output its verdict. It rests on base, sheet and anyhow, and
+// is a test only: the expected verdicts stand in the file stdout.
 #![tactic(auto)]
 
 use base::Refusal;
