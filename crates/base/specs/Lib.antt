@@ -1,1 +1,4 @@
 pub mod Refusals
+pub mod Layers
+pub mod Shown
+pub mod Outcomes

@@ -1,12 +1,30 @@
 // What a refused call answers: a cause, whose number is fixed, and a place.
+ghost use Rattle.base.specs.Layers.{layer_number};
 ghost use Rattle.base.specs.Refusals.{assigned};
-ghost use Rattle.std.specs.Prelude.{◌≡◌};
+ghost use Rattle.base.specs.Shown.{shown};
+ghost use Rattle.std.specs.Prelude.{◌≡◌, Some};
+
+use std::error::Error;
+use std::fmt;
+
+// The part of the whole that refuses. Each case has the number that users see.
+#[derive(Clone, Copy, PartialEq, Eq, Debug)]
+pub enum Layer {
+    // The layout of an image.
+    Layout = 1,
+    // The typing of an image.
+    Typing = 2,
+    Machine = 3,
+    Host = 4,
+    // The sheet and the report.
+    Sheet = 5,
+}
 
 // Why a call was refused. Each case has the number that users see. Where a comment names no other
 // place, a cause found at an instruction has the word of its opcode as its place.
 #[derive(Clone, Copy, PartialEq, Eq, Debug)]
 pub enum Cause {
-    // Layer 1: the layout of an image. Places are word numbers.
+    // The layout. Places are word numbers.
     // Under 5 or over 8,192 words, or part of a word (place 0); word 4 is not the length (place 4).
     ImageSize = 1,
     // A number outside its range (its word).
@@ -18,7 +36,7 @@ pub enum Cause {
     // Unknown opcode, an instruction past its block's end, or ret elsewhere than at the end.
     Opcode = 5,
 
-    // Layer 2: the typing of an image.
+    // The typing.
     // Too few values on the stack, or a 17th value or local.
     StackDepth = 6,
     // No such parameter, free value or local.
@@ -32,7 +50,7 @@ pub enum Cause {
     // A table's free lists differ (the pair's block word), or a table does not fit its channel.
     TableMismatch = 11,
 
-    // Layer 3: the machine.
+    // The machine.
     // No image is loaded (0).
     NotLoaded = 12,
     // The policy is not empty at load (0).
@@ -60,7 +78,7 @@ pub enum Cause {
     // A budget over 1,000,000 (0).
     BudgetRange = 24,
 
-    // Layer 4: the host.
+    // The host.
     // No answer is left (0 where the host itself answers).
     NoAnswer = 25,
     // No place is left for a told value (0 where the host itself answers).
@@ -68,7 +86,7 @@ pub enum Cause {
     // A list of a tape is over its size (0).
     TapeSize = 27,
 
-    // Layer 5: the sheet and the report. Places of 28 to 32 are lines, counted from 1; 1 for a
+    // The sheet and the report. Places of 28 to 32 are lines, counted from 1; 1 for a
     // text that stands alone.
     // The key, the order or the end of a line.
     SheetLine = 28,
@@ -86,37 +104,23 @@ pub enum Cause {
     BufferShort = 34,
 }
 
-// A refusal: its cause, and where it was found.
-#[derive(Clone, Copy, PartialEq, Eq, Debug)]
-pub struct Refusal {
-    pub cause: Cause,
-    pub place: usize,
-}
-
-impl Refusal {
-    // The number of the cause.
-    pub fn number(&self) -> u8
-        ensures { result ≡ (assigned self.now.cause).number }
+impl Cause {
+    // The layer that it belongs to.
+    pub fn layer(self) -> Layer
+        ensures { layer_number result ≡ (assigned self).layer }
     {
-        self.cause as u8
-    }
-
-    // The layer that the cause belongs to.
-    pub fn layer(&self) -> u8
-        ensures { result ≡ (assigned self.now.cause).layer }
-    {
-        match self.cause {
+        match self {
             Cause::ImageSize
             | Cause::NumberRange
             | Cause::RecordEnd
             | Cause::LabelOrder
-            | Cause::Opcode => 1,
+            | Cause::Opcode => Layer::Layout,
             Cause::StackDepth
             | Cause::NoSuchIndex
             | Cause::TypeMismatch
             | Cause::UnknownLabel
             | Cause::Arity
-            | Cause::TableMismatch => 2,
+            | Cause::TableMismatch => Layer::Typing,
             Cause::NotLoaded
             | Cause::PolicyNotEmpty
             | Cause::PolicyFull
@@ -129,15 +133,60 @@ impl Refusal {
             | Cause::StuckKind
             | Cause::StuckLabel
             | Cause::StuckCounts
-            | Cause::BudgetRange => 3,
-            Cause::NoAnswer | Cause::NoPlace | Cause::TapeSize => 4,
+            | Cause::BudgetRange => Layer::Machine,
+            Cause::NoAnswer | Cause::NoPlace | Cause::TapeSize => Layer::Host,
             Cause::SheetLine
             | Cause::BadText
             | Cause::BadNumber
             | Cause::NameTwice
             | Cause::NameUnknown
             | Cause::NamesDiffer
-            | Cause::BufferShort => 5,
+            | Cause::BufferShort => Layer::Sheet,
         }
     }
+
+    // The refusal that has this cause, and was found at a place.
+    pub fn at(self, place: usize) -> Refusal
+        ensures { result ≡ record { cause = self; place = place } }
+    {
+        Refusal { cause: self, place }
+    }
 }
+
+// A refusal: its cause, and where it was found.
+#[derive(Clone, Copy, PartialEq, Eq, Debug)]
+pub struct Refusal {
+    pub cause: Cause,
+    pub place: usize,
+}
+
+impl Refusal {
+    // The number of the cause.
+    pub fn number(&self) -> u8
+        ensures { result ≡ (assigned self.now.cause).number }
+    {
+        // The cast takes the number that stands at the case; an `impl From` would only name it again.
+        self.cause as u8
+    }
+
+    // The number of the layer that the cause belongs to.
+    pub fn layer(&self) -> u8
+        ensures { result ≡ (assigned self.now.cause).layer }
+    {
+        // The cast again takes the number that stands at the case.
+        self.cause.layer() as u8
+    }
+}
+
+impl fmt::Display for Refusal {
+    ghost output = { λ r. Some (shown r) };
+
+    fn fmt<W: fmt::Write>(&self, f: &mut fmt::Formatter<W>) -> fmt::Result {
+        let number = self.number();
+        let layer = self.layer();
+        let place = self.place;
+        write!(f, "refused={number} layer={layer} place={place}")
+    }
+}
+
+impl Error for Refusal {}
