@@ -1,45 +1,30 @@
--- Words from bytes, one turn of a loop and the way back.
-use Rattle.std.proofs.Common.{◌≡◌, ℕ, zero, suc, ◌+◌, ◌*◌, ◌/◌, ◌%◌, ◌<◌, ◌≤◌, ◌&&◌, eqb, leb, List, [], ◌∷◌, ◌++◌, length, get_or, drop, sym, refl, ap, ◌∙◌, append_assoc, append-nil, arith, length-append}
+-- Words from bytes, and the way back.
+use Rattle.std.proofs.Common.{◌≡◌, ℕ, zero, suc, ◌*◌, ◌/◌, ◌%◌, ◌<◌, ◌≤◌, ◌&&◌, eqb, leb, List, [], ◌∷◌, ◌++◌, length, map, get_or, Ok, sym, refl, ap, ◌∙◌, arith}
+use Rattle.std.specs.Int.{w32, from_le_bytes}
 use Rattle.std.specs.List.{flat_map}
-use Rattle.std.proofs.lemmas.List.{drop_more, drop_all}
-use Rattle.std.proofs.lemmas.Bool.{and_parts, eqb-true, lt-ltb, cond-true}
-use Rattle.array_list.specs.Items.{pushed}
-use Rattle.image.specs.Bytes.{word, assembled, word_bytes, BytesBack}
+use Rattle.std.specs.Simd.{first_chunks}
+use Rattle.std.proofs.lemmas.Bool.{and_parts, and_from, eqb-true, eq-eqb, le-leb, cond-true}
+use Rattle.image.specs.Bytes.{word, assembled, word_bytes, words_in, BytesBack}
 use Rattle.image.proofs.Describing.{cond_ok}
 
--- the next four bytes
-four : (bs : List ℕ) (k : ℕ) → k + 3 < length bs → drop k bs ≡ get_or bs k 0 ∷ get_or bs (k + 1) 0 ∷ get_or bs (k + 2) 0 ∷ get_or bs (k + 3) 0 ∷ drop (k + 4) bs
-four bs k h =
-    let e1 : k + 1 + 1 ≡ k + 2 = omega arith in
-    let e2 : k + 2 + 1 ≡ k + 3 = omega arith in
-    let e3 : k + 3 + 1 ≡ k + 4 = omega arith in
-    drop_more bs k 0 (omega arith)
-    ∙ ap (λ l. get_or bs k 0 ∷ l) (drop_more bs (k + 1) 0 (omega arith) ∙ ap (λ j. get_or bs (k + 1) 0 ∷ drop j bs) e1)
-    ∙ ap (λ l. get_or bs k 0 ∷ get_or bs (k + 1) 0 ∷ l) (drop_more bs (k + 2) 0 (omega arith) ∙ ap (λ j. get_or bs (k + 2) 0 ∷ drop j bs) e2)
-    ∙ ap (λ l. get_or bs k 0 ∷ get_or bs (k + 1) 0 ∷ get_or bs (k + 2) 0 ∷ l) (drop_more bs (k + 3) 0 (omega arith) ∙ ap (λ j. get_or bs (k + 3) 0 ∷ drop j bs) e3)
+-- the words of the bytes in parts of four
+pub parts_assembled : (bs : List ℕ) (n : ℕ) → length bs ≡ 4 * n → map (from_le_bytes w32) (first_chunks 4 n bs) ≡ assembled bs
+parts_assembled [] zero e = refl
+parts_assembled [] (suc n) e = absurd (omega arith)
+parts_assembled (a ∷ []) n e = absurd (omega arith)
+parts_assembled (a ∷ b ∷ []) n e = absurd (omega arith)
+parts_assembled (a ∷ b ∷ c ∷ []) n e = absurd (omega arith)
+parts_assembled (a ∷ b ∷ c ∷ d ∷ bs) zero e = absurd (omega arith)
+parts_assembled (a ∷ b ∷ c ∷ d ∷ bs) (suc n) e =
+    let first : from_le_bytes w32 (a ∷ b ∷ c ∷ d ∷ []) ≡ word a b c d = omega arith in
+    let more = parts_assembled bs n (omega arith) in
+    (λ i. first i ∷ more i)
 
-pub record Turn (bs ws : List ℕ) (i : ℕ) : Type 0 where
-  pub whole : assembled bs ≡ ws ++ assembled (drop (4 * i) bs)
-  pub many : length ws ≡ i
-
-pub first_turn : (bs ws : List ℕ) → ws ≡ [] → Turn bs ws 0
-first_turn bs ws e = record { whole = ap (λ l. l ++ assembled bs) (sym e); many = ap length e }
-
-pub next_turn : (bs ws vs : List ℕ) (i n w : ℕ) → Turn bs ws i → length bs ≡ 4 * n → n ≤ 8192 → i < n → vs ≡ pushed 8192 ws w → w ≡ word (get_or bs (4 * i) 0) (get_or bs (4 * i + 1) 0) (get_or bs (4 * i + 2) 0) (get_or bs (4 * i + 3) 0) → Turn bs vs (i + 1)
-next_turn bs ws vs i n w t size few h p is =
-    let l : length ws ≡ i = t.many in
-    let more : vs ≡ ws ++ w ∷ [] = p ∙ cond-true _ _ _ (lt-ltb (length ws) 8192 (omega arith)) in
-    let on : 4 * i + 4 ≡ 4 * (i + 1) = omega arith in
-    record {
-      whole =
-          t.whole ∙ ap (λ l. ws ++ assembled l) (four bs (4 * i) (omega arith))
-          ∙ ap (λ v. ws ++ v ∷ assembled (drop (4 * i + 4) bs)) (sym is) ∙ sym (append_assoc ws (w ∷ []) (assembled (drop (4 * i + 4) bs)))
-          ∙ ap (λ l. l ++ assembled (drop (4 * i + 4) bs)) (sym more) ∙ ap (λ k. vs ++ assembled (drop k bs)) on;
-      many = ap length more ∙ simp length-append (omega arith);
-    }
-
-pub last_turn : (bs ws : List ℕ) (i n : ℕ) → Turn bs ws i → length bs ≡ 4 * n → n ≤ i → ws ≡ assembled bs
-last_turn bs ws i n t size h = sym (t.whole ∙ ap (λ l. ws ++ assembled l) (drop_all (4 * i) bs (omega arith)) ∙ append-nil ws)
+-- whole words, and few enough, are read
+pub whole : (bs ws : List ℕ) → length bs % 4 ≡ 0 → length bs / 4 ≤ 8192 → ws ≡ map (from_le_bytes w32) (first_chunks 4 (length bs / 4) bs) → Ok ws ≡ words_in bs
+whole bs ws none few is =
+    ap Ok (is ∙ parts_assembled bs (length bs / 4) (omega arith))
+    ∙ sym (cond-true _ _ _ (and_from _ _ (eq-eqb (length bs % 4) 0 none) (le-leb (length bs / 4) 8192 few)))
 
 -- ---- the bytes of the words
 

@@ -1,12 +1,12 @@
 -- Instructions and blocks as they are written.
-use Rattle.std.proofs.Common.{◌≡◌, ℕ, zero, suc, ◌+◌, ◌-◌, ◌<◌, ◌≤◌, Bool, true, false, ◌&&◌, eqb, leb, ◌↔◌, List, [], ◌∷◌, ◌++◌, length, get_or, Ok, sym, refl, ap, ◌∙◌, subst, inl, inr, append-nil, arith, length-append}
+use Rattle.std.proofs.Common.{◌≡◌, ℕ, zero, suc, ◌+◌, ◌-◌, ◌<◌, ◌≤◌, Bool, true, ◌&&◌, eqb, leb, ◌↔◌, List, [], ◌∷◌, ◌++◌, length, get_or, Ok, sym, refl, ap, ◌∙◌, subst, inl, inr, append-nil, arith, length-append}
 use mathlib.Core.Bool.{beq}
 use Rattle.std.specs.List.{flat_map, AllByRecursion}
 use Rattle.std.proofs.lemmas.List.{length-map}
 use Rattle.std.proofs.lemmas.Bool.{and_parts, and_from, leb-true, le-leb, lt-ltb, le-ltb, eqb-true, eq-eqb, cond-true, cond-false, cases_lt}
 use Rattle.image.specs.declared.counts.Counts.{Counts}
 use Rattle.image.specs.declared.instruction.Instruction.{Instruction}
-use Rattle.image.specs.declared.instruction.Instruction.TheVariants.{Int, Truth, Name, Param, Free, Local, New, Op, Send, Object, Make, Choose, Tell, Ask, Ret}
+use Rattle.image.specs.declared.instruction.Instruction.TheVariants.{Ret}
 use Rattle.image.specs.declared.types.TypeCode.{TypeCode}
 use Rattle.image.specs.Codes.{code_word}
 use Rattle.image.specs.Encoded.{encoded, OperandsFit}
@@ -15,7 +15,7 @@ use Rattle.image.specs.Layout.{Block, operand, operands, opcode_stands, opened, 
 use Rattle.image.specs.Opcodes.{Form, unknown, bare, one, two, form_of, shape}
 use Rattle.image.specs.Readers.{Read, ◌>>=◌, and_then, done, here, number, chain}
 use Rattle.image.proofs.Coding.{Entry, Built, by_none, by_one, by_two, entry, built}
-use Rattle.image.proofs.Describing.{Stands, Describes, Follow, stands_join, stands_cut, ok_parts, ok_not_err, then_ok, cond_ok, number_d, count_d, said_d, then_d, chain_d}
+use Rattle.image.proofs.Describing.{Stands, Describes, stands_join, stands_cut, ok_parts, then_ok, cond_ok, number_d, count_d, said_d, then_d, chain_as}
 use Rattle.image.proofs.Written.{values_d}
 
 -- ---- one instruction
@@ -24,38 +24,10 @@ abbrev opcode : Instruction → ℕ
 opcode i = get_or (encoded i) 0 0
 
 ret_only : (i : Instruction) → opcode i ≡ 15 → i ≡ Ret
-ret_only (Int z) e = absurd (omega arith)
-ret_only (Truth b) e = absurd (omega arith)
-ret_only (Name n) e = absurd (omega arith)
-ret_only (Param i) e = absurd (omega arith)
-ret_only (Free i) e = absurd (omega arith)
-ret_only (Local i) e = absurd (omega arith)
-ret_only (New t) e = absurd (omega arith)
-ret_only (Op o) e = absurd (omega arith)
-ret_only (Send l a) e = absurd (omega arith)
-ret_only (Object t) e = absurd (omega arith)
-ret_only (Make b) e = absurd (omega arith)
-ret_only (Choose b c) e = absurd (omega arith)
-ret_only Tell e = absurd (omega arith)
-ret_only Ask e = absurd (omega arith)
-ret_only Ret e = refl
+ret_only i e = grind arith
 
 pub encoded_some : (i : Instruction) → 1 ≤ length (encoded i)
-encoded_some (Int z) = omega arith
-encoded_some (Truth b) = omega arith
-encoded_some (Name n) = omega arith
-encoded_some (Param i) = omega arith
-encoded_some (Free i) = omega arith
-encoded_some (Local i) = omega arith
-encoded_some (New t) = omega arith
-encoded_some (Op o) = omega arith
-encoded_some (Send l a) = omega arith
-encoded_some (Object t) = omega arith
-encoded_some (Make b) = omega arith
-encoded_some (Choose b c) = omega arith
-encoded_some Tell = omega arith
-encoded_some Ask = omega arith
-encoded_some Ret = omega arith
+encoded_some i = grind arith
 
 -- an instruction of a block that ends at end: it does not pass the end, and ends there exactly if it is ret
 pub record Placed (n : Counts) (end at : ℕ) (i : Instruction) : Type 0 where
@@ -65,20 +37,13 @@ pub record Placed (n : Counts) (end at : ℕ) (i : Instruction) : Type 0 where
   pub only : i ≡ Ret → at + length (encoded i) ≡ end
 
 beq_left : (a b : Bool) → beq a b ≡ true → a ≡ true → b ≡ true
-beq_left true true e h = refl
-beq_left true false e h = e
-beq_left false b e h = let z : ◌≡◌ {A = ℕ} 0 1 = cc in absurd (omega arith)
+beq_left a b e h = grind arith
 
 beq_right : (a b : Bool) → beq a b ≡ true → b ≡ true → a ≡ true
-beq_right true b e h = refl
-beq_right false true e h = e
-beq_right false false e h = h
+beq_right a b e h = grind arith
 
 beq_same : (a b : Bool) → (a ≡ true → b ≡ true) → (b ≡ true → a ≡ true) → beq a b ≡ true
-beq_same true true f g = refl
-beq_same true false f g = f refl
-beq_same false true f g = g refl
-beq_same false false f g = refl
+beq_same a b f g = grind arith
 
 -- what the test at an opcode says, for an instruction of so many words
 placed_from : (n : Counts) (end at o k : ℕ) (i : Instruction) (rest : List ℕ) → encoded i ≡ o ∷ rest → length (encoded i) ≡ k → OperandsFit n i → (leb (at + k) end && beq (eqb (at + k) end) (eqb o 15)) ≡ true → Placed n end at i
@@ -107,7 +72,7 @@ module _ (n : Counts) (end : ℕ) (words : List ℕ) (at : ℕ) where
 
   -- the operands behind an opcode
   operands_sound : (o : ℕ) (f : Form) → Entry o f → Stands words at (o ∷ []) (at + 1) → opcode_stands end at o (shape f) ≡ true → (i : Instruction) (to : ℕ) → operands n f words (at + 1) ≡ Ok (i, to) → There i to
-  operands_sound o unknown right stood test i to e = absurd (ok_not_err e)
+  operands_sound o unknown right stood test i to e = absurd cc
   operands_sound o (bare j) right stood test i to e =
       let r = right n in
       subst (λ (v : Instruction × ℕ). There v.0 v.1) (ok_parts e)
@@ -299,18 +264,5 @@ block_d n most =
     code_some [] e = absurd e
     code_some (i ∷ is) e = omega (arith, length-append (encoded i) (code_words is), encoded_some i)
 
-abbrev BlocksFollow : Counts → ℕ → ℕ → List Block → Type 0
-BlocksFollow n most at bs = Follow (block n) after_block block_words (λ most at b. BlockFits n most at b) most at bs
-
-blocks_fit : (n : Counts) (most at : ℕ) (bs : List Block) → BlocksFollow n most at bs → BlocksFit n most at bs
-blocks_fit n most at [] h = tt
-blocks_fit n most at (b ∷ bs) h = (h.0, blocks_fit n 8 (at + length (block_words b)) bs h.1)
-
-blocks_follow : (n : Counts) (most at : ℕ) (bs : List Block) → BlocksFit n most at bs → BlocksFollow n most at bs
-blocks_follow n most at [] h = tt
-blocks_follow n most at (b ∷ bs) h = (h.0, blocks_follow n 8 (at + length (block_words b)) bs h.1)
-
 pub blocks_d : (n : Counts) (k : ℕ) → Describes (chain (block n) after_block 0 k) (flat_map block_words) (λ at bs. (length bs ≡ k) × BlocksFit n 0 at bs)
-blocks_d n k =
-    said_d (chain_d (block n) after_block block_words (λ most at b. BlockFits n most at b) (block_d n) 0 k) (λ bs. refl)
-    (λ at bs. (λ h. (h.0, blocks_fit n 0 at bs h.1), λ h. (h.0, blocks_follow n 0 at bs h.1)))
+blocks_d n k = chain_as (block n) after_block block_words (λ most at b. BlockFits n most at b) (λ most at bs. BlocksFit n most at bs) (λ _ _. tt) (λ _ _ _ _. (λ h. h, λ h. h)) (block_d n) 0 k

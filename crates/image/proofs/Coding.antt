@@ -1,5 +1,5 @@
 -- The opcode table against the encoder: each form writes the instruction that it builds, and each instruction is built by the form of its opcode.
-use Rattle.std.proofs.Common.{◌≡◌, ℕ, zero, suc, ◌+◌, ◌-◌, ◌<◌, ◌≤◌, Bool, true, false, eqb, ltb, leb, List, [], ◌∷◌, length, get_or, refl, ap, ◌∙◌, subst, arith, w32, to_z, of_z}
+use Rattle.std.proofs.Common.{◌≡◌, ℕ, zero, suc, ◌+◌, ◌-◌, ◌<◌, ◌≤◌, Bool, true, eqb, ltb, leb, List, [], ◌∷◌, get_or, refl, ap, subst, arith, w32, to_z, of_z}
 use mir.Facts.{sfits_to_z, Fits-of_z}
 use Rattle.std.proofs.lemmas.Bool.{and_parts, and_from, leb-true, ltb-true, le-leb, lt-ltb}
 use Rattle.std.proofs.lemmas.Int.{to_z-of_z, of_z-to_z}
@@ -7,10 +7,9 @@ use Rattle.image.specs.declared.counts.Counts.{Counts}
 use Rattle.image.specs.declared.instruction.Instruction.{Instruction}
 use Rattle.image.specs.declared.instruction.Instruction.TheVariants.{Int, Truth, Name, Param, Free, Local, New, Op, Send, Object, Make, Choose, Tell, Ask, Ret}
 use Rattle.image.specs.declared.instruction.Operator.{Operator}
-use Rattle.image.specs.declared.instruction.Operator.TheVariants.{Sum, Difference, Product, Quotient, Remainder, Negation, Less, Equal, And, Or, Not}
 use Rattle.image.specs.declared.operand.Operand.{Operand}
 use Rattle.image.specs.declared.operand.Operand.TheVariants.{Word, Flag, NameNumber, Index, ChannelType, OperatorNumber, LabelNumber, Arity, TableNumber, BlockNumber}
-use Rattle.image.specs.Codes.{operators, operator_of, operator_word}
+use Rattle.image.specs.Codes.{operator_of, operator_word}
 use Rattle.image.specs.Encoded.{encoded, flag, OperandsFit}
 use Rattle.image.specs.Opcodes.{Form, unknown, bare, one, two, forms, form_of, least, limit, in_range, new_of}
 
@@ -39,50 +38,16 @@ Entry o (one k f) = (n : Counts) (a : ℕ) → In n k a → Right n (f a) (o ∷
 Entry o (two k l f) = (n : Counts) (a b : ℕ) → In n k a → In n l b → Right n (f a b) (o ∷ a ∷ b ∷ [])
 
 flag_of : (a : ℕ) → a < 2 → flag (eqb a 1) ≡ a
-flag_of zero h = refl
-flag_of (suc zero) h = refl
-flag_of (suc (suc a)) h = absurd (omega arith)
-
--- a list whose values are numbered from k on
-abbrev Numbered : {X : Type 0} → (X → ℕ) → ℕ → List X → Type 0
-Numbered f k [] = Unit {0}
-Numbered f k (x ∷ xs) = (f x ≡ k) × Numbered f (suc k) xs
-
-numbered_at : {X : Type 0} (f : X → ℕ) (d : X) (k : ℕ) (xs : List X) → Numbered f k xs → (i : ℕ) → i < length xs → f (get_or xs i d) ≡ k + i
-numbered_at f d k [] all i h = absurd (omega arith)
-numbered_at f d k (x ∷ xs) all zero h = let e : k ≡ k + 0 = omega arith in all.0 ∙ e
-numbered_at f d k (x ∷ xs) all (suc i) h = let e : suc k + i ≡ k + suc i = omega arith in numbered_at f d (suc k) xs all.1 i (omega arith) ∙ e
+flag_of a h = grind arith
 
 operator_is : (a : ℕ) → a < 11 → operator_word (operator_of a) ≡ a
-operator_is a h =
-    let e : 0 + a ≡ a = omega arith in
-    numbered_at operator_word Sum 0 operators (refl, (refl, (refl, (refl, (refl, (refl, (refl, (refl, (refl, (refl, (refl, tt))))))))))) a h ∙ e
+operator_is a h = grind arith
 
 pub operator_back : (o : Operator) → operator_of (operator_word o) ≡ o
-operator_back Sum = refl
-operator_back Difference = refl
-operator_back Product = refl
-operator_back Quotient = refl
-operator_back Remainder = refl
-operator_back Negation = refl
-operator_back Less = refl
-operator_back Equal = refl
-operator_back And = refl
-operator_back Or = refl
-operator_back Not = refl
+operator_back o = grind arith
 
 operator_below : (o : Operator) → operator_word o < 11
-operator_below Sum = omega arith
-operator_below Difference = omega arith
-operator_below Product = omega arith
-operator_below Quotient = omega arith
-operator_below Remainder = omega arith
-operator_below Negation = omega arith
-operator_below Less = omega arith
-operator_below Equal = omega arith
-operator_below And = omega arith
-operator_below Or = omega arith
-operator_below Not = omega arith
+operator_below o = grind arith
 
 int_entry : Entry 1 (one Word (λ w. Int (to_z w32 w)))
 int_entry n a h = record { written = ap (λ w. 1 ∷ w ∷ []) (of_z-to_z w32 a h.high); fit = sfits_to_z (record { fits = h.high }) }
@@ -159,12 +124,10 @@ pub data Built (n : Counts) (i : Instruction) : Type 0 where
   by_two : (o : ℕ) (k l : Operand) (f : ℕ → ℕ → Instruction) (a b : ℕ) → o < 16 → form_of o ≡ two k l f → f a b ≡ i → In n k a → In n l b → encoded i ≡ o ∷ a ∷ b ∷ [] → Built n i
 
 flag_back : (b : Bool) → eqb (flag b) 1 ≡ b
-flag_back true = refl
-flag_back false = refl
+flag_back b = grind arith
 
 flag_below : (b : Bool) → flag b < 2
-flag_below true = omega arith
-flag_below false = omega arith
+flag_below b = grind arith
 
 pub built : (n : Counts) (i : Instruction) → OperandsFit n i → Built n i
 built n (Int z) h = by_one 1 Word (λ w. Int (to_z w32 w)) (of_z w32 z) (omega arith) refl (ap Int (to_z-of_z w32 z h)) (record { low = omega arith; high = (Fits-of_z h).fits }) refl

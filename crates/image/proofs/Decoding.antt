@@ -1,25 +1,18 @@
 -- Decoding undoes encoding, and nothing else is decoded.
-use Rattle.std.proofs.Common.{◌≡◌, ℕ, ◌-◌, ◌<◌, ◌≤◌, Bool, true, false, ◌&&◌, List, [], ◌∷◌, ◌++◌, length, get_or, take, drop, ℤ, Some, None, Option, sym, refl, ap, ◌∙◌, subst, arith, w32, to_z, of_z}
-use Rattle.std.proofs.lemmas.Int.{of_z-to_z}
+use Rattle.std.proofs.Common.{◌≡◌, ℕ, Bool, true, false, ◌&&◌, List, [], ◌∷◌, ◌++◌, Some, Option, sym, refl, ap, ◌∙◌, subst}
 use Rattle.std.proofs.lemmas.Bool.{and_parts, and_from}
 use Rattle.image.specs.declared.instruction.Instruction.{Instruction}
-use Rattle.image.specs.declared.instruction.Instruction.TheVariants.{Int}
-use Rattle.image.specs.declared.operand.Operand.TheVariants.{Word}
 use Rattle.image.specs.Encoded.{encoded, OperandsFit, Decodes}
 use Rattle.image.specs.Opcodes.{Form, unknown, bare, one, two, form_of, in_range, widest, taken_if, before, filled, decoded}
 use Rattle.image.proofs.Coding.{Right, Entry, Built, by_none, by_one, by_two, entry, built, in_from, in_true}
-use Rattle.image.proofs.Front.{front_two}
 
 abbrev Found : Type 0
 Found = Option (Instruction × List ℕ)
 
-none_some : {p : Instruction × List ℕ} → ◌≡◌ {A = Found} None (Some p) → ⊥
-none_some e = let z : ◌≡◌ {A = ℕ} 0 1 = cc in omega arith
-
 -- an instruction that is taken passed its test
 taken : (b : Bool) (j i : Instruction) (ws rest : List ℕ) → before ws (taken_if b j) ≡ Some (i, rest) → (b ≡ true) × (◌≡◌ {A = Instruction × List ℕ} (j, ws) (i, rest))
 taken true j i ws rest e = (refl, cc)
-taken false j i ws rest e = absurd (none_some e)
+taken false j i ws rest e = absurd cc
 
 abbrev StandsFirst : List ℕ → Instruction → List ℕ → Type 0
 StandsFirst ws i rest = (ws ≡ encoded i ++ rest) × OperandsFit widest i
@@ -28,21 +21,21 @@ stood : (o : List ℕ) (j i : Instruction) (ws rest : List ℕ) → Right widest
 stood o j i ws rest r e = subst (λ (v : Instruction × List ℕ). StandsFirst (o ++ ws) v.0 v.1) e (ap (λ l. l ++ ws) (sym r.written), r.fit)
 
 there : (o : ℕ) (f : Form) → Entry o f → (ws : List ℕ) (i : Instruction) (rest : List ℕ) → filled f ws ≡ Some (i, rest) → StandsFirst (o ∷ ws) i rest
-there o unknown n ws i rest e = absurd (none_some e)
+there o unknown n ws i rest e = absurd cc
 there o (bare j) n ws i rest e = let p : ◌≡◌ {A = Instruction × List ℕ} (j, ws) (i, rest) = cc in stood (o ∷ []) j i ws rest (n widest) p
-there o (one k f) n [] i rest e = absurd (none_some e)
+there o (one k f) n [] i rest e = absurd cc
 there o (one k f) n (a ∷ ws) i rest e =
     let t = taken (in_range widest k a) (f a) i ws rest e in
     stood (o ∷ a ∷ []) (f a) i ws rest (n widest a (in_from widest k a t.0)) t.1
-there o (two k l f) n [] i rest e = absurd (none_some e)
-there o (two k l f) n (a ∷ []) i rest e = absurd (none_some e)
+there o (two k l f) n [] i rest e = absurd cc
+there o (two k l f) n (a ∷ []) i rest e = absurd cc
 there o (two k l f) n (a ∷ b ∷ ws) i rest e =
     let t = taken (in_range widest k a && in_range widest l b) (f a b) i ws rest e in
     let p = and_parts (in_range widest k a) (in_range widest l b) t.0 in
     stood (o ∷ a ∷ b ∷ []) (f a b) i ws rest (n widest a b (in_from widest k a p.0) (in_from widest l b p.1)) t.1
 
 found : (ws : List ℕ) (i : Instruction) (rest : List ℕ) → decoded ws ≡ Some (i, rest) → StandsFirst ws i rest
-found [] i rest e = absurd (none_some e)
+found [] i rest e = absurd cc
 found (o ∷ ws) i rest e = there o (form_of o) (entry o) ws i rest e
 
 back : (i : Instruction) (rest : List ℕ) → Built widest i → decoded (encoded i ++ rest) ≡ Some (i, rest)
@@ -56,13 +49,3 @@ back i rest (by_two o k l f a b small e is h m w) =
 
 pub decodes : (ws : List ℕ) → Decodes ws
 decodes ws i rest = (found ws i rest, λ h. ap decoded h.0 ∙ back i rest (built widest i h.1))
-
--- any word is an integer
-pub int_first : (ws : List ℕ) {z : ℤ} → 2 ≤ length ws → get_or ws 0 0 ≡ 1 → get_or ws 1 0 < 4294967296 → z ≡ to_z w32 (get_or ws 1 0) → Some (Int (to_z w32 (of_z w32 z)), take (length ws - 2) (drop 2 ws)) ≡ decoded ws
-int_first ws {z} long o small e =
-    let a = get_or ws 1 0 in
-    let rest = take (length ws - 2) (drop 2 ws) in
-    let is : to_z w32 (of_z w32 z) ≡ to_z w32 a = ap (λ v. to_z w32 (of_z w32 v)) e ∙ ap (to_z w32) (of_z-to_z w32 a small) in
-    ap (λ v. Some (Int v, rest)) is
-    ∙ sym (ap (λ b. before rest (taken_if b (Int (to_z w32 a)))) (in_true widest Word a (record { low = omega arith; high = small })))
-    ∙ sym (ap decoded (front_two ws 1 long o))

@@ -35,16 +35,13 @@ stands_cut {words} {at} {to} p q h =
 pub ok_parts : {X : Type 0} {x y : X} {a b : ℕ} → ◌≡◌ {A = Read X} (Ok (x, a)) (Ok (y, b)) → ◌≡◌ {A = X × ℕ} (x, a) (y, b)
 ok_parts e = cc
 
-pub ok_not_err : {X : Type 0} {x : X} {e : Refusal} → ◌≡◌ {A = Result X Refusal} (Err e) (Ok x) → ⊥
-ok_not_err e = let z : ◌≡◌ {A = ℕ} 0 1 = cc in omega arith
-
 pub then_ok : {X Y : Type 0} (r : Read X) (f : X → ℕ → Read Y) {y : Y} {to : ℕ} → and_then r f ≡ Ok (y, to) → (x : X) × (mid : ℕ) × (r ≡ Ok (x, mid)) × (f x mid ≡ Ok (y, to))
 then_ok (Ok p) f e = (p.0, p.1, refl, e)
-then_ok (Err d) f e = absurd (ok_not_err e)
+then_ok (Err d) f e = absurd cc
 
 pub cond_ok : {X : Type 0} (b : Bool) (r : Result X Refusal) (d : Refusal) {x : X} → cond b r (Err d) ≡ Ok x → (b ≡ true) × (r ≡ Ok x)
 cond_ok true r d e = (refl, e)
-cond_ok false r d e = absurd (ok_not_err e)
+cond_ok false r d e = absurd cc
 
 -- ---- readers
 
@@ -148,3 +145,14 @@ module _ {S X : Type 0} (item : S → Reader X) (next : S → X → S) (written 
 
     pub chain_d : (s : S) (n : ℕ) → Describes (chain item next s n) (flat_map written) (λ at xs. (length xs ≡ n) × Follow s at xs)
     chain_d s n words at xs to = (chain_sound s n words at xs to, chain_complete s n words at xs to)
+
+  -- the same, where each value fits by a rule on the whole list
+  module _ (G : S → ℕ → List X → Type 0) (none : (s : S) (at : ℕ) → G s at []) (more : (s : S) (at : ℕ) (x : X) (xs : List X) → (Fits s at x × G (next s x) (at + length (written x)) xs) ↔ G s at (x ∷ xs)) where
+    follow_is : (s : S) (at : ℕ) (xs : List X) → Follow s at xs ↔ G s at xs
+    follow_is s at [] = (λ _. none s at, λ _. tt)
+    follow_is s at (x ∷ xs) =
+        let rest = follow_is (next s x) (at + length (written x)) xs in
+        (λ h. (more s at x xs).0 (h.0, rest.0 h.1), λ h. let k = (more s at x xs).1 h in (k.0, rest.1 k.1))
+
+    pub chain_as : ((s : S) → Describes (item s) written (Fits s)) → (s : S) (n : ℕ) → Describes (chain item next s n) (flat_map written) (λ at xs. (length xs ≡ n) × G s at xs)
+    chain_as each s n = said_d (chain_d each s n) (λ xs. refl) (λ at xs. (λ h. (h.0, (follow_is s at xs).0 h.1), λ h. (h.0, (follow_is s at xs).1 h.1)))

@@ -6,9 +6,9 @@ use Rattle.std.proofs.lemmas.Bool.{and_parts, and_from, leb-true, le-leb, le-ltb
 use Rattle.base.specs.declared.refusal.Refusal.{Refusal}
 use Rattle.image.specs.declared.counts.Counts.{Counts}
 use Rattle.image.specs.Format.{type_words, block_words, table_words, record_words, image_words, counts_of, TypeFits, BlocksFit, TablesFit, Fits, AcceptsExactly}
-use Rattle.image.specs.Layout.{Method, Block, Table, Structure, type_record, counts, total, records, ended, sized, layout}
-use Rattle.image.specs.Readers.{Read, ◌>>=◌, and_then}
-use Rattle.image.proofs.Describing.{Stands, Describes, ok_parts, ok_not_err, then_ok, cond_ok, count_d, said_d, done_d, then_d}
+use Rattle.image.specs.Layout.{Method, Block, Table, Structure, type_record, counts, total, records, ended, header, sized, layout}
+use Rattle.image.specs.Readers.{Read, and_then}
+use Rattle.image.proofs.Describing.{Stands, Describes, ok_parts, then_ok, cond_ok, count_d, said_d, done_d, then_d}
 use Rattle.image.proofs.Written.{type_d, many_d, tables_d}
 use Rattle.image.proofs.Coded.{blocks_d}
 
@@ -91,38 +91,47 @@ ended_ok words (Ok p) {s} e =
     (p.1, ap (λ (s : Structure). Ok (s, p.1)) is, ltb-false p.1 (length words) k.0)
   where
     cond_ok' : (b : Bool) (d : Refusal) (t : Structure) → cond b (Err d) (Ok t) ≡ Ok s → (b ≡ false) × (◌≡◌ {A = Result Structure Refusal} (Ok t) (Ok s))
-    cond_ok' true d t e = absurd (ok_not_err e)
+    cond_ok' true d t e = absurd cc
     cond_ok' false d t e = (refl, e)
-ended_ok words (Err d) e = absurd (ok_not_err e)
+ended_ok words (Err d) e = absurd cc
 
 total_ok : (words : List ℕ) (at : ℕ) {u : Unit {0}} {to : ℕ} → total words at ≡ Ok (u, to) → (get_or words at 0 ≡ length words) × (to ≡ at + 1)
 total_ok words at e =
     let k = cond_ok (eqb (get_or words at 0) (length words)) _ _ e in
     (eqb-true (get_or words at 0) (length words) k.0, sym (ap (λ v. v.1) (ok_parts k.1)))
 
+-- all that is read: the header, and the records behind it
+abbrev pub whole : List ℕ → Read Structure
+whole words = and_then (header words) (λ n to. records n words to)
+
 -- the counts, word 4 and the records, one after another
 pub record Steps (words : List ℕ) (s : Structure) (to : ℕ) : Type 0 where
   pub n : Counts
+  pub long : sized words ≡ true
   pub front : counts words 0 ≡ Ok (n, 4)
   pub size : get_or words 4 0 ≡ length words
   pub body : records n words 5 ≡ Ok (s, to)
 
-pub steps : (words : List ℕ) (s : Structure) (to : ℕ) → (counts >>= λ n. total >>= λ _. records n) words 0 ≡ Ok (s, to) → Steps words s to
+pub steps : (words : List ℕ) (s : Structure) (to : ℕ) → whole words ≡ Ok (s, to) → Steps words s to
 steps words s to e =
-    let a = then_ok (counts words 0) _ e in
+    let h = then_ok (header words) _ e in
+    let k = cond_ok (sized words) _ _ h.2 in
+    let a = then_ok (counts words 0) _ k.1 in
     let b = then_ok (total words a.1) _ a.3 in
+    let same = ok_parts b.3 in
     let four : a.1 ≡ 4 = ((counts_d words 0 a.0 a.1).0 a.2).0.ends in
     let size = total_ok words a.1 b.2 in
-    let five : b.1 ≡ 5 = size.1 ∙ ap (λ m. m + 1) four in
+    let five : h.1 ≡ 5 = sym (ap (λ v. v.1) same) ∙ size.1 ∙ ap (λ m. m + 1) four in
     record {
-      n = a.0;
-      front = subst (λ m. counts words 0 ≡ Ok (a.0, m)) four a.2;
+      n = h.0;
+      long = k.0;
+      front = a.2 ∙ (λ j. Ok ((same j).0, four j));
       size = subst (λ m. get_or words m 0 ≡ length words) four size.0;
-      body = subst (λ m. records a.0 words m ≡ Ok (s, to)) five b.3;
+      body = subst (λ m. records h.0 words m ≡ Ok (s, to)) five h.3;
     }
 
 -- a structure that was read is written behind the counts
-pub body_stands : (words : List ℕ) (s : Structure) (to : ℕ) → (counts >>= λ n. total >>= λ _. records n) words 0 ≡ Ok (s, to) → Stands words 5 (record_words s) to
+pub body_stands : (words : List ℕ) (s : Structure) (to : ℕ) → whole words ≡ Ok (s, to) → Stands words 5 (record_words s) to
 body_stands words s to e = let p = steps words s to e in ((records_d p.n words 5 s to).0 p.body).0
 
 -- the five counts in front of the records
@@ -131,12 +140,11 @@ fronted n rest = n.types ∷ n.blocks ∷ n.tables ∷ n.names ∷ (5 + length r
 
 sound : (words : List ℕ) (s : Structure) → layout words ≡ Ok s → (words ≡ image_words s) × Fits s
 sound words s e =
-    let sized_so = cond_ok (sized words) _ _ e in
-    let long = and_parts (leb 5 (length words)) (leb (length words) 8192) sized_so.0 in
+    let whole = ended_ok words _ e in
+    let p = steps words s whole.0 whole.1 in
+    let long = and_parts (leb 5 (length words)) (leb (length words) 8192) p.long in
     let least = leb-true 5 (length words) long.0 in
     let most = leb-true (length words) 8192 long.1 in
-    let whole = ended_ok words _ sized_so.1 in
-    let p = steps words s whole.0 whole.1 in
     let c = (counts_d words 0 p.n 4).0 p.front in
     let r = (records_d p.n words 5 s whole.0).0 p.body in
     let rest : drop 5 words ≡ record_words s = r.0.begins ∙ ap (λ l. record_words s ++ l) (drop_all whole.0 words whole.2) ∙ append-nil (record_words s) in
@@ -169,8 +177,8 @@ complete s h =
       record { begins = sym (append-nil (record_words s)) ∙ ap (λ l. record_words s ++ l) (sym (drop_all (length words) words (omega arith))); ends = omega arith },
       record { counted = refl; types = h.types; blocks = h.blocks; tables = h.tables },
     ) in
-    cond-true _ _ _ (and_from _ _ (le-leb 5 (length words) (omega arith)) (le-leb (length words) 8192 h.short))
-    ∙ ap (ended words) (ap (λ v. and_then v (λ n to. and_then (total words to) (λ _ to. records n words to))) front ∙ ap (λ v. and_then v (λ _ to. records n words to)) size ∙ body)
+    let head : header words ≡ Ok (n, 5) = cond-true _ _ _ (and_from _ _ (le-leb 5 (length words) (omega arith)) (le-leb (length words) 8192 h.short)) ∙ ap (λ v. and_then v (λ n to. and_then (total words to) (λ _ to. Ok (n, to)))) front ∙ ap (λ v. and_then v (λ (_ : Unit {0}) to. Ok (n, to))) size in
+    ap (ended words) (ap (λ v. and_then v (λ n to. records n words to)) head ∙ body)
     ∙ cond-false _ _ _ (le-ltb (length words) (length words) (omega arith))
 
 pub accepts_exactly : (words : List ℕ) → AcceptsExactly words

@@ -1,4 +1,3 @@
-pub mod Front
 pub mod Reading
 pub mod Instructing
 pub mod Coding
@@ -10,3 +9,5 @@ pub mod Formatting
 pub mod Cutting
 pub mod Viewing
 pub mod Assembling
+pub mod Composing
+pub mod Outlining

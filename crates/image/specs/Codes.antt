@@ -1,5 +1,7 @@
 -- Type codes and operators as words.
-use Rattle.std.specs.Prelude.{ℕ, zero, suc, ◌+◌, ◌<◌, List, [], ◌∷◌, slice_index_or}
+use Rattle.std.specs.Prelude.{ℕ, zero, suc, ◌+◌, ◌<◌, List, [], ◌∷◌, length, Result, MatchResult, ◌≡◌, ◌≤◌, slice_index_or}
+use Rattle.base.specs.declared.refusal.Cause.{Cause}
+use Rattle.base.specs.declared.refusal.Cause.TheVariants.{NumberRange}
 use Rattle.image.specs.declared.types.TypeCode.{TypeCode}
 use Rattle.image.specs.declared.types.TypeCode.TheVariants.{Integer, Truth, Name, Channel}
 use Rattle.image.specs.declared.instruction.Operator.{Operator}
@@ -44,3 +46,7 @@ operator_word Equal = 7
 operator_word And = 8
 operator_word Or = 9
 operator_word Not = 10
+
+-- the operator of a word; a word past the last has none
+abbrev pub operator_from : ℕ → Result Operator Cause → Type 0
+operator_from w r = MatchResult r (λ o. (w < length operators) × (operator_of w ≡ o)) (λ e. (length operators ≤ w) × (e ≡ NumberRange))

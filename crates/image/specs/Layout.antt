@@ -8,12 +8,11 @@ use Rattle.base.specs.Refusals.{refused}
 use Rattle.image.specs.declared.counts.Counts.{Counts}
 use Rattle.image.specs.declared.instruction.Instruction.{Instruction}
 use Rattle.image.specs.declared.operand.Operand.{Operand}
-use Rattle.image.specs.declared.operand.Shape.{Shape}
 use Rattle.image.specs.declared.records.Pair.{Pair}
 use Rattle.image.specs.declared.types.TypeCode.{TypeCode}
 use Rattle.image.specs.Codes.{code_of}
 use Rattle.image.specs.Opcodes.{Form, unknown, bare, one, two, form_of, shape, size, least, limit}
-use Rattle.image.specs.Readers.{Read, Reader, ◌>>=◌, done, here, number, count, chain}
+use Rattle.image.specs.Readers.{Read, Reader, ◌>>=◌, and_then, done, here, number, count, chain}
 
 -- ---- what an image says
 
@@ -48,6 +47,11 @@ rising low at l words to = cond (nat_le low l) (Ok (record { 0 = l }, to)) (refu
 
 abbrev pub label : ℕ → Reader Label
 label low = here >>= λ at. number 0 256 >>= λ l. rising low at l
+
+-- the least label that rises over the one before, or over none
+abbrev pub over : Option Label → ℕ
+over None = 0
+over (Some l) = l.0 + 1
 
 -- a type code: integer, truth, name, or one of the channel types
 abbrev pub code : ℕ → Reader TypeCode
@@ -89,9 +93,9 @@ operands n (one o f) words at = (operand n o >>= λ a. done (f a)) words at
 operands n (two o p f) words at = (operand n o >>= λ a. operand n p >>= λ b. done (f a b)) words at
 
 -- a known opcode, whose instruction lies before the end, and ends there exactly if it is ret, opcode 15
-abbrev pub opcode_stands : ℕ → ℕ → ℕ → Option Shape → Bool
+abbrev pub opcode_stands : ℕ → ℕ → ℕ → Option (List Operand) → Bool
 opcode_stands end at o None = false
-opcode_stands end at o (Some s) = nat_le (at + size s) end && beq (at + size s == end) (o == 15)
+opcode_stands end at o (Some os) = nat_le (at + size os) end && beq (at + size os == end) (o == 15)
 
 -- the instruction at a place of a block that ends at end: first its opcode, then its operands
 abbrev pub opened : Counts → ℕ → ℕ → ℕ → Reader Instruction
@@ -117,6 +121,11 @@ block n most = do
   start ← here
   is ← instructions n (start + size) size
   done (record { params = ps; free = fs; start = start; code = is })
+
+-- the most values of a block behind another, or behind none
+abbrev pub most_behind : {X : Type 0} → Option X → ℕ
+most_behind None = 0
+most_behind (Some b) = 8
 
 -- block 0 has neither parameters nor free values; the others have up to eight of each
 abbrev pub after_block : ℕ → Block → ℕ
@@ -158,6 +167,14 @@ counts = do
 abbrev pub total : Reader (Unit {0})
 total words at = cond (slice_index words at == length words) (Ok (tt, at + 1)) (refused ImageSize at)
 
+-- an image has at least its five counts, and at most 8,192 words
+abbrev pub sized : List ℕ → Bool
+sized words = nat_le 5 (length words) && nat_le (length words) 8192
+
+-- what stands in front of the records
+abbrev pub header : List ℕ → Read Counts
+header words = cond (sized words) ((counts >>= λ n. total >>= λ _. done n) words 0) (refused ImageSize 0)
+
 -- the records, each kind as often as it is counted
 abbrev pub records : Counts → Reader Structure
 records n = do
@@ -171,12 +188,5 @@ abbrev pub ended : {X : Type 0} → List ℕ → Read X → Result X Refusal
 ended words (Ok p) = cond (nat_lt p.1 (length words)) (refused RecordEnd p.1) (Ok p.0)
 ended words (Err e) = Err e
 
--- an image has at least its five counts, and at most 8,192 words
-abbrev pub sized : List ℕ → Bool
-sized words = nat_le 5 (length words) && nat_le (length words) 8192
-
 abbrev pub layout : List ℕ → Result Structure Refusal
-layout words =
-    cond (sized words)
-    (ended words ((counts >>= λ n. total >>= λ _. records n) words 0))
-    (refused ImageSize 0)
+layout words = ended words (and_then (header words) (λ n to. records n words to))

@@ -4,6 +4,7 @@ pub mod Encoded
 pub mod Readers
 pub mod Layout
 pub mod View
+pub mod Cursor
 pub mod Operands
 pub mod Format
 pub mod Bytes

@@ -1,14 +1,15 @@
 -- The opcode table: what follows each opcode, and the instruction that is meant.
-use Rattle.std.specs.Prelude.{ℕ, ◌+◌, ◌-◌, ◌^◌, Bool, cond, ◌&&◌, List, [], ◌∷◌, Some, None, Option, ◌==◌, nat_le, nat_lt, slice_index_or}
+use Rattle.std.specs.Prelude.{ℕ, ◌+◌, ◌-◌, ◌^◌, Bool, cond, ◌&&◌, List, [], ◌∷◌, length, ◌≡◌, Some, None, Option, Result, MatchResult, ◌==◌, nat_le, nat_lt, slice_index_or}
 use Rattle.std.specs.Int.{w32}
 use Rattle.std.proofs.Common.{to_z}
 use Rattle.image.specs.declared.counts.Counts.{Counts}
 use Rattle.image.specs.declared.instruction.Instruction.{Instruction}
 use Rattle.image.specs.declared.instruction.Instruction.TheVariants.{Int, Truth, Name, Param, Free, Local, New, Op, Send, Object, Make, Choose, Tell, Ask, Ret}
+use Rattle.image.specs.declared.opcode.Opcode.{Opcode}
+use Rattle.image.specs.declared.opcode.Opcode.TheVariants as o
+use Rattle.base.specs.declared.refusal.Cause.{Cause}
 use Rattle.image.specs.declared.operand.Operand.{Operand}
 use Rattle.image.specs.declared.operand.Operand.TheVariants.{Word, Flag, NameNumber, Index, ChannelType, OperatorNumber, LabelNumber, Arity, TableNumber, BlockNumber}
-use Rattle.image.specs.declared.operand.Shape.{Shape}
-use Rattle.image.specs.declared.operand.Shape.TheVariants.{Bare, One, Two}
 use Rattle.image.specs.Codes.{operator_of}
 
 -- an operand lies in a range: from its least value on, and below its limit
@@ -75,18 +76,38 @@ forms =
 abbrev pub form_of : ℕ → Form
 form_of o = slice_index_or forms o unknown
 
--- what follows an opcode, if it is known
-abbrev pub shape : Form → Option Shape
+-- the word of an opcode
+abbrev pub opcode_word : Opcode → ℕ
+opcode_word o.Int = 1
+opcode_word o.Truth = 2
+opcode_word o.Name = 3
+opcode_word o.Param = 4
+opcode_word o.Free = 5
+opcode_word o.Local = 6
+opcode_word o.New = 7
+opcode_word o.Op = 8
+opcode_word o.Send = 9
+opcode_word o.Object = 10
+opcode_word o.Make = 11
+opcode_word o.Choose = 12
+opcode_word o.Tell = 13
+opcode_word o.Ask = 14
+opcode_word o.Ret = 15
+
+-- the opcode that is written as a word; none is where the word has no form
+abbrev pub opcode_from : ℕ → Result Opcode Cause → Type 0
+opcode_from w r = MatchResult r (λ o. opcode_word o ≡ w) (λ e. (form_of w ≡ unknown) × (e ≡ Cause.Opcode))
+
+-- the operands that follow an opcode, if it is known
+abbrev pub shape : Form → Option (List Operand)
 shape unknown = None
-shape (bare i) = Some Bare
-shape (one o f) = Some (One o)
-shape (two o p f) = Some (Two o p)
+shape (bare i) = Some []
+shape (one o f) = Some (o ∷ [])
+shape (two o p f) = Some (o ∷ p ∷ [])
 
 -- how many words an instruction takes
-abbrev pub size : Shape → ℕ
-size Bare = 1
-size (One o) = 2
-size (Two o p) = 3
+abbrev pub size : List Operand → ℕ
+size os = 1 + length os
 
 -- the largest counts that an image may have
 abbrev pub widest : Counts
@@ -107,12 +128,6 @@ with_two unknown a b = None
 with_two (bare i) a b = None
 with_two (one o f) a b = None
 with_two (two o p f) a b = taken_if (in_range widest o a && in_range widest p b) (f a b)
-
-abbrev pub one_of : ℕ → ℕ → Option Instruction
-one_of o a = with_one (form_of o) a
-
-abbrev pub two_of : ℕ → ℕ → ℕ → Option Instruction
-two_of o a b = with_two (form_of o) a b
 
 -- an instruction with the words behind it
 abbrev pub before : List ℕ → Option Instruction → Option (Instruction × List ℕ)

@@ -1,13 +1,11 @@
--- The place behind the operands of an instruction, for the functions that read them one by one.
-use Rattle.std.specs.Prelude.{ℕ, List, Ok, Result}
-use Rattle.base.specs.declared.refusal.Refusal.{Refusal}
+-- The operands of an instruction, read for their places alone.
+use Rattle.std.specs.Prelude.{List, [], ◌∷◌}
 use Rattle.image.specs.declared.counts.Counts.{Counts}
-use Rattle.image.specs.declared.operand.Shape.{Shape}
-use Rattle.image.specs.declared.operand.Shape.TheVariants.{Bare, One, Two}
+use Rattle.image.specs.declared.operand.Operand.{Operand}
 use Rattle.image.specs.Layout.{operand}
-use Rattle.image.specs.Readers.{◌>>=◌, behind}
+use Rattle.image.specs.Readers.{Reader, ◌>>=◌, done}
 
-abbrev pub checked : Counts → Shape → List ℕ → ℕ → Result ℕ Refusal
-checked n Bare words at = Ok at
-checked n (One o) words at = behind (operand n o words at)
-checked n (Two o p) words at = behind ((operand n o >>= λ _. operand n p) words at)
+-- one behind the other
+abbrev pub checked : Counts → List Operand → Reader (Unit {0})
+checked n [] = done tt
+checked n (o ∷ os) = operand n o >>= λ _. checked n os

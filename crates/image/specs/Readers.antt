@@ -1,5 +1,5 @@
 -- Readers of words: what stands at a place of the words, with the place behind it, or why it is refused and where.
-use Rattle.std.specs.Prelude.{ℕ, zero, suc, ◌+◌, cond, ◌&&◌, List, [], ◌∷◌, length, Ok, Err, Result, nat_le, nat_lt, slice_index}
+use Rattle.std.specs.Prelude.{ℕ, zero, suc, ◌+◌, cond, ◌&&◌, List, [], ◌∷◌, length, Ok, Err, Option, Result, ◌-◌, slice_get, nat_le, nat_lt, slice_index}
 use Rattle.base.specs.declared.refusal.Cause.TheVariants.{NumberRange, RecordEnd}
 use Rattle.base.specs.declared.refusal.Refusal.{Refusal}
 use Rattle.base.specs.Refusals.{refused}
@@ -45,12 +45,20 @@ chain item next s (suc n) = do
   xs ← chain item next (next s x) n
   done (x ∷ xs)
 
+-- the last of some values
+abbrev pub last_of : {X : Type 0} → List X → Option X
+last_of xs = slice_get xs (length xs - 1)
+
 -- the part of a value that is kept
 abbrev pub kept : {X Y : Type 0} → (X → Y) → Read X → Read Y
 kept f (Ok p) = Ok (f p.0, p.1)
 kept f (Err e) = Err e
 
--- the place alone
-abbrev pub behind : {X : Type 0} → Read X → Result ℕ Refusal
-behind (Ok p) = Ok p.1
-behind (Err e) = Err e
+-- what was read, seen by a view, and the place behind it
+abbrev pub answered : {X Y : Type 0} → (Y → X) → Result Y Refusal → ℕ → Read X
+answered view (Ok y) to = Ok (view y, to)
+answered view (Err e) to = Err e
+
+-- a reader whose place alone is kept
+abbrev pub passed : {X : Type 0} → Reader X → Reader (Unit {0})
+passed r words at = kept (λ _. tt) (r words at)

@@ -1,23 +1,21 @@
 -- What the records in memory stand for.
-use Rattle.std.specs.Prelude.{ℕ, ◌-◌, List, map, length, drop, Some, None, Ok, Err, Option, Result}
-use Rattle.base.specs.declared.refusal.Refusal.{Refusal}
+use Rattle.std.specs.Prelude.{ℕ, ◌-◌, List, map, length, drop, Some, None, Option}
 use Rattle.image.specs.declared.counts.Counts.{Counts}
 use Rattle.image.specs.declared.image.Image.{Image}
 use Rattle.image.specs.declared.instruction.Instruction.{Instruction}
-use Rattle.array_list.specs.Items.{items}
 use Rattle.image.specs.declared.records.BlockRecord.{BlockRecord}
 use Rattle.image.specs.declared.records.Method.{Method}
 use Rattle.image.specs.declared.records.TableRecord.{TableRecord}
 use Rattle.image.specs.declared.types.TypeCode.{TypeCode}
 use Rattle.image.specs.Layout as layout
 use Rattle.image.specs.Opcodes.{decoded}
-use Rattle.array_list.specs.declared.list.ArrayVec.{ArrayVec}
+use Rattle.arrayvec.specs.ArrayVec.{ArrayVec}
 
 abbrev pub seen_method : Method → layout.Method
-seen_method m = record { label = m.label; codes = items m.codes }
+seen_method m = record { label = m.label; codes = m.codes.items }
 
-abbrev pub seen_type : ArrayVec Method 16 → List layout.Method
-seen_type t = map seen_method (items t)
+abbrev pub seen_type : ArrayVec Method → List layout.Method
+seen_type t = map seen_method t.items
 
 -- what a block declares, without its code
 pub record Head : Type 0 where
@@ -29,19 +27,19 @@ abbrev pub head : layout.Block → Head
 head b = record { params = b.params; free = b.free; start = b.start }
 
 abbrev pub seen_block : BlockRecord → Head
-seen_block b = record { params = items b.params; free = items b.free; start = b.start }
+seen_block b = record { params = b.params.items; free = b.free.items; start = b.start }
 
 abbrev pub seen_table : TableRecord → layout.Table
-seen_table t = record { start = t.start; pairs = items t.pairs }
+seen_table t = record { start = t.start; pairs = t.pairs.items }
 
-abbrev pub seen_types : ArrayVec (ArrayVec Method 16) 64 → List (List layout.Method)
-seen_types ts = map seen_type (items ts)
+abbrev pub seen_types : ArrayVec (ArrayVec Method) → List (List layout.Method)
+seen_types ts = map seen_type ts.items
 
-abbrev pub seen_blocks : ArrayVec BlockRecord 128 → List Head
-seen_blocks bs = map seen_block (items bs)
+abbrev pub seen_blocks : ArrayVec BlockRecord → List Head
+seen_blocks bs = map seen_block bs.items
 
-abbrev pub seen_tables : ArrayVec TableRecord 128 → List layout.Table
-seen_tables ts = map seen_table (items ts)
+abbrev pub seen_tables : ArrayVec TableRecord → List layout.Table
+seen_tables ts = map seen_table ts.items
 
 -- what an image declares: all of its structure but the code
 pub record Outline : Type 0 where
@@ -59,11 +57,6 @@ declares im = record { types = seen_types im.types; blocks = seen_blocks im.bloc
 
 abbrev pub source : Image → List ℕ
 source im = im.words.now
-
--- what was read, or why it was refused
-abbrev pub read_as : {X Y : Type 0} → (X → Y) → Result X Refusal → Result Y Refusal
-read_as f (Ok x) = Ok (f x)
-read_as f (Err e) = Err e
 
 abbrev pub counted : Outline → Counts
 counted o = record { types = length o.types; blocks = length o.blocks; tables = length o.tables; names = o.names }

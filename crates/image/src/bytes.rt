@@ -1,44 +1,30 @@
 // Words from bytes.
-ghost use Rattle.array_list.specs.Items.{items};
-ghost use Rattle.image.specs.Bytes.{BytesBack, assembled, words_in};
-ghost use Rattle.image.specs.View.{read_as};
-ghost use Rattle.std.specs.Prelude.{◌≡◌, ◌*◌, ◌≤◌, length};
+ghost use Rattle.image.specs.Bytes.{BytesBack, words_in};
+ghost use Rattle.base.specs.Outcomes.{read_as};
+ghost use Rattle.std.specs.Prelude.{◌≡◌};
 
 use crate::limits::MAX_WORDS;
-use array_list::ArrayVec;
+use arrayvec::ArrayVec;
 use base::{Cause, Refusal};
 
 // As many words as an image may have.
-pub type Words = ArrayVec<u32, 8192>;
+pub type Words = ArrayVec<u32, MAX_WORDS>;
 
 const WORD_BYTES: usize = 4;
 
 // The words of some bytes: four bytes a word, the least first. Part of a word, or more words than an
 // image may have, is refused as an image of the wrong size.
 pub fn words_of(bytes: &[u8]) -> Result<Words, Refusal>
-    ensures value { read_as items result ≡ words_in bytes.now }
+    ensures value { read_as (λ v. v.items) result ≡ words_in bytes.now }
     ensures back { BytesBack bytes.now }
 {
-    let count = bytes.len() / WORD_BYTES;
-    if bytes.len() % WORD_BYTES != 0 || count > MAX_WORDS {
-        return Err(Refusal {
-            cause: Cause::ImageSize,
-            place: 0,
-        });
+    let (parts, rest) = bytes.as_chunks::<WORD_BYTES>();
+    if !rest.is_empty() || parts.len() > MAX_WORDS {
+        return Err(Cause::ImageSize.at(0));
     }
-    Ok(assemble(bytes, count))
-}
-
-// So many words from the front of the bytes.
-fn assemble(bytes: &[u8], count: usize) -> Words
-    requires whole { length bytes.now ≡ 4 * count }
-    requires few { count ≤ 8192 }
-    ensures { items result ≡ assembled bytes.now }
-{
-    let mut words = ArrayVec::new(0);
-    for i in 0..count {
-        let at = i * WORD_BYTES;
-        words.push(u32::from_le_bytes([bytes[at], bytes[at + 1], bytes[at + 2], bytes[at + 3]]));
+    let mut words = Words::new();
+    for part in parts {
+        words.push(u32::from_le_bytes(*part));
     }
-    words
+    Ok(words)
 }

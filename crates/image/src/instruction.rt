@@ -1,6 +1,6 @@
 // Instructions and their operands.
 use crate::types::TypeId;
-use base::{BlockId, Label, NameId, TableId};
+use base::{BlockId, Cause, Label, NameId, TableId};
 
 // What op does with the values on top of the stack. Written 0 to 10, in this order.
 #[derive(Clone, Copy, PartialEq, Eq, Debug)]
@@ -16,6 +16,31 @@ pub enum Operator {
     And,
     Or,
     Not,
+}
+
+impl TryFrom<u32> for Operator {
+    type Error = Cause;
+
+    ghost use Rattle.image.specs.Codes.{operator_from};
+
+    ghost try_from_gives = { operator_from };
+
+    fn try_from(word: u32) -> Result<Operator, Cause> {
+        Ok(match word {
+            0 => Operator::Sum,
+            1 => Operator::Difference,
+            2 => Operator::Product,
+            3 => Operator::Quotient,
+            4 => Operator::Remainder,
+            5 => Operator::Negation,
+            6 => Operator::Less,
+            7 => Operator::Equal,
+            8 => Operator::And,
+            9 => Operator::Or,
+            10 => Operator::Not,
+            _ => return Err(Cause::NumberRange),
+        })
+    }
 }
 
 // The fifteen instructions. Their opcodes are 1 to 15, in this order.

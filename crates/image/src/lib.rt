@@ -1,22 +1,19 @@
-// Images of programs: the layout reader and the instruction decoder. It rests on base and array_list.
+// Images of programs: the layout reader and the instruction decoder. It rests on base and arrayvec.
 // It promises that an image is read exactly when its words are the encoding of some structure
 // within the format's bounds, that a refusal is the first broken rule at its word, and that an
 // instruction is decoded exactly where its encoding stands.
 #![tactic(auto)]
 
-mod blocks;
 mod bytes;
-mod channels;
 mod counts;
+mod cursor;
 mod decoder;
 mod image;
 mod instruction;
 mod limits;
 mod opcode;
 mod operand;
-mod reader;
 mod records;
-mod tables;
 mod types;
 
 pub use bytes::{Words, words_of};

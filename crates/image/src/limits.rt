@@ -23,7 +23,9 @@ pub(crate) const MAX_CODE: u32 = 1024;
 pub(crate) const LABELS: u32 = 256;
 // Indices of parameters, free values and locals are below it.
 pub(crate) const INDICES: u32 = 16;
+// A truth is below it.
+pub(crate) const FLAGS: u32 = 2;
 // Operators are below it.
 pub(crate) const OPERATORS: u32 = 11;
 // Codes of channel types begin here.
-pub(crate) const FIRST_CHANNEL: u32 = 3;
+pub(crate) const FIRST_CHANNEL: u8 = 3;

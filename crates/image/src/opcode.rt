@@ -1,30 +1,77 @@
-// The opcodes, and the largest numbers that the format has.
-pub(crate) const INT: u32 = 1;
+// The opcodes.
+ghost use Rattle.image.specs.Opcodes.{form_of, opcode_word, shape};
+ghost use Rattle.std.specs.Prelude.{◌≡◌, ◌≤◌, length, Some};
 
-pub(crate) const TRUTH: u32 = 2;
+use crate::operand::Operand;
+use base::Cause;
 
-pub(crate) const NAME: u32 = 3;
+// Each case has the word that it is written as.
+#[derive(Clone, Copy, PartialEq, Eq, Debug)]
+pub(crate) enum Opcode {
+    Int = 1,
+    Truth = 2,
+    Name = 3,
+    Param = 4,
+    Free = 5,
+    Local = 6,
+    New = 7,
+    Op = 8,
+    Send = 9,
+    Object = 10,
+    Make = 11,
+    Choose = 12,
+    Tell = 13,
+    Ask = 14,
+    Ret = 15,
+}
 
-pub(crate) const PARAM: u32 = 4;
+impl Opcode {
+    // What follows it: no operand, one, or two.
+    pub(crate) fn operands(self) -> &'static [Operand]
+        ensures value { Some result.now ≡ shape (form_of (opcode_word self)) }
+        ensures few { length result.now ≤ 2 }
+    {
+        match self {
+            Opcode::Int => &[Operand::Word],
+            Opcode::Truth => &[Operand::Flag],
+            Opcode::Name => &[Operand::NameNumber],
+            Opcode::Param | Opcode::Free | Opcode::Local => &[Operand::Index],
+            Opcode::New => &[Operand::ChannelType],
+            Opcode::Op => &[Operand::OperatorNumber],
+            Opcode::Send => &[Operand::LabelNumber, Operand::Arity],
+            Opcode::Object => &[Operand::TableNumber],
+            Opcode::Make => &[Operand::BlockNumber],
+            Opcode::Choose => &[Operand::BlockNumber, Operand::BlockNumber],
+            Opcode::Tell | Opcode::Ask | Opcode::Ret => &[],
+        }
+    }
+}
 
-pub(crate) const FREE: u32 = 5;
+impl TryFrom<u32> for Opcode {
+    type Error = Cause;
 
-pub(crate) const LOCAL: u32 = 6;
+    ghost use Rattle.image.specs.Opcodes.{opcode_from};
 
-pub(crate) const NEW: u32 = 7;
+    ghost try_from_gives = { opcode_from };
 
-pub(crate) const OP: u32 = 8;
-
-pub(crate) const SEND: u32 = 9;
-
-pub(crate) const OBJECT: u32 = 10;
-
-pub(crate) const MAKE: u32 = 11;
-
-pub(crate) const CHOOSE: u32 = 12;
-
-pub(crate) const TELL: u32 = 13;
-
-pub(crate) const ASK: u32 = 14;
-
-pub(crate) const RET: u32 = 15;
+    fn try_from(word: u32) -> Result<Opcode, Cause> {
+        Ok(match word {
+            1 => Opcode::Int,
+            2 => Opcode::Truth,
+            3 => Opcode::Name,
+            4 => Opcode::Param,
+            5 => Opcode::Free,
+            6 => Opcode::Local,
+            7 => Opcode::New,
+            8 => Opcode::Op,
+            9 => Opcode::Send,
+            10 => Opcode::Object,
+            11 => Opcode::Make,
+            12 => Opcode::Choose,
+            13 => Opcode::Tell,
+            14 => Opcode::Ask,
+            15 => Opcode::Ret,
+            _ => return Err(Cause::Opcode),
+        })
+    }
+}

@@ -24,6 +24,7 @@ impl<'a> Image<'a> {
     pub fn counts(&self) -> Counts
         ensures { result ≡ counted (declares self.now) }
     {
+        // A checked conversion would add an error that cannot come.
         Counts {
             types: self.types.len() as u32,
             blocks: self.blocks.len() as u32,
@@ -32,7 +33,8 @@ impl<'a> Image<'a> {
         }
     }
 
-    // A channel type.
+    // A channel type. This, `block` and `table` are one call each; one function for the three
+    // would want a trait of the numbers that they take.
     pub fn type_record(&self, id: TypeId) -> Option<&TypeRecord>
         ensures { option_map (λ t. seen_type t.now) result ≡ slice_get (declares self.now).types id.0 }
     {
@@ -53,14 +55,12 @@ impl<'a> Image<'a> {
         self.tables.get(usize::from(id.0))
     }
 
-    // The instruction whose opcode stands at a word, and the word behind it.
+    // The instruction whose opcode stands at a word, and the word behind it: users name a place of an
+    // image by its word.
     pub fn instruction(&self, at: usize) -> Option<(Instruction, usize)>
         ensures { result ≡ instruction_at (source self.now) at }
     {
-        if at >= self.words.len() {
-            return None;
-        }
-        let (instruction, rest) = decode(&self.words[at..])?;
+        let (instruction, rest) = decode(self.words.get(at..)?)?;
         Some((instruction, self.words.len() - rest.len()))
     }
 }

@@ -1,5 +1,5 @@
 use Rattle.image.proofs.Decoding.{decodes}
 use Rattle.image.proofs.decoder.decode.Goals as goal
 
-pub returns : goal.returns
-returns c = record { value = c.take_apart.ensures; exactly = decodes c.args.words.now }
+pub returns-clause-exactly : goal.returns-clause-exactly
+returns-clause-exactly c = decodes c.args.words.now

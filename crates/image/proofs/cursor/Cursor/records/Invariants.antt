@@ -1,0 +1,5 @@
+use Rattle.image.proofs.Reading.{Turn}
+use Rattle.image.proofs.cursor.Cursor.records.Given as goal
+
+abbrev pub invariant-loop-i : goal.invariant-loop-i
+invariant-loop-i g l = Turn g.T.Record.reader g.T.Record.left g.T.Record.seen l.count l.fn.self l.records.items l._i l.self
