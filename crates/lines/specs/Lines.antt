@@ -1,6 +1,11 @@
 -- A line of output: a key, what it says, byte 10.
-use Rattle.std.specs.Prelude.{ℕ, List, [], ◌∷◌, ◌++◌, ℤ, decimal}
+use Rattle.std.specs.Prelude.{ℕ, List, [], ◌∷◌, ◌++◌, ℤ, decimal, flat_map}
+use Rattle.std.specs.Borrow.{Bor}
 use Rattle.std.specs.Fmt.{signed_decimal}
+
+-- the bytes of the parts, one behind the other
+abbrev pub joined : List (Bor (List ℕ)) → List ℕ
+joined parts = flat_map (λ part. part.now) parts
 
 abbrev pub line : List ℕ → List ℕ → List ℕ
 line key rest = key ++ (rest ++ 10 ∷ [])

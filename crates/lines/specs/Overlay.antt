@@ -1,5 +1,5 @@
 -- Writing into the front of a lent buffer.
-use Rattle.std.specs.Prelude.{ℕ, cond, List, [], ◌++◌, length, drop, Ok, Err, Result, nat_le}
+use Rattle.std.specs.Prelude.{◌≡◌, ℕ, cond, List, [], ◌++◌, length, drop, Ok, Err, Result, nat_le}
 use Rattle.base.specs.declared.refusal.Cause.TheVariants.{BufferShort}
 use Rattle.base.specs.declared.refusal.Refusal.{Refusal}
 use Rattle.base.specs.Refusals.{refused}
@@ -21,3 +21,8 @@ piece (Err e) bytes = []
 -- the buffer with its front written over; what lies behind stays
 abbrev pub overlaid : List ℕ → List ℕ → List ℕ
 overlaid bytes buffer = bytes ++ drop (length bytes) buffer
+
+-- a call that writes these bytes into the front of a buffer: what it answers, and what it leaves
+pub record Writes (old new bytes : List ℕ) (answer : Result ℕ Refusal) : Type 0 where
+  pub value : answer ≡ fitted old bytes
+  pub change : new ≡ overlaid (piece answer bytes) old

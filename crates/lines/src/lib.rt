@@ -1,9 +1,9 @@
-// Lines of output, written into the front of a lent buffer. It rests on base. It promises which
-// bytes are written, that the rest of the buffer stays as it was, and that a line that does not fit
-// is refused and changes nothing.
+// Lines of output, written into the front of a lent buffer. It rests on base and itoa. It promises
+// which bytes are written, that the rest of the buffer stays as it was, and that a line that does
+// not fit is refused and changes nothing.
 #![tactic(auto)]
 
-mod digits;
 mod line;
 
-pub use line::{write_count_line, write_number_line, write_text_line};
+pub use itoa::Integer;
+pub use line::{write_number_line, write_text_line};

@@ -1,12 +1,15 @@
 -- The lines of a sheet that was read, written back, are read as the same contents.
-use Rattle.std.proofs.Common.{◌≡◌, ℕ, ◌+◌, ◌<◌, ◌≤◌, Bool, true, false, cond, List, [], ◌∷◌, ◌++◌, map, length, IfOk, Some, Ok, Err, codes, Result, sym, refl, ap, ◌∙◌, subst, append_assoc, arith}
+use Rattle.std.proofs.Common.{◌≡◌, ℕ, ◌+◌, ◌<◌, ◌≤◌, Bool, true, false, cond, List, [], ◌∷◌, ◌++◌, map, length, IfOk, Some, Ok, Err, codes, Result, sym, refl, ap, ◌∙◌, subst, arith}
 use mathlib.Core.List.{map-map}
 use Rattle.std.specs.List.{flat_map}
 use Rattle.base.specs.declared.refusal.Refusal.{Refusal}
 use Rattle.std.proofs.ByRecursion.{All-get_or, All-from_get_or, All-map, All-weaker}
 use Rattle.std.proofs.lemmas.List.{length-map, map-id}
+use Rattle.std.proofs.lemmas.Grind.{flat_map-append}
 use Rattle.lines.specs.Lines.{text_line, count_line, number_line}
 use Rattle.sheet.specs.declared.sheet.Sheet.{Sheet}
+use Rattle.sheet.specs.declared.text.Text.{Text}
+use Rattle.sheet.specs.Texts.{text_of}
 use Rattle.sheet.specs.Text.{inner}
 use Rattle.sheet.specs.Number.{InRange}
 use Rattle.sheet.specs.Same.{same_text}
@@ -52,10 +55,6 @@ plain_fits s fits =
       asks_answerable = λ i h. All-get_or (Answerable s.names) (map figure values) i _ h (All-map (Answerable s.names) figure values in_range);
     }
 
-joined_append : {X A : Type 0} (f : X → List A) (xs ys : List X) → flat_map f (xs ++ ys) ≡ flat_map f xs ++ flat_map f ys
-joined_append f [] ys = refl
-joined_append f (x ∷ xs) ys = ap (λ l. f x ++ l) (joined_append f xs ys) ∙ sym (append_assoc (f x) (flat_map f xs) (flat_map f ys))
-
 joined_map : {X Y A : Type 0} (f : Y → List A) (g : X → Y) (xs : List X) → flat_map f (map g xs) ≡ flat_map (λ x. f (g x)) xs
 joined_map f g [] = refl
 joined_map f g (x ∷ xs) = ap (λ l. f (g x) ++ l) (joined_map f g xs)
@@ -63,7 +62,7 @@ joined_map f g (x ∷ xs) = ap (λ l. f (g x) ++ l) (joined_map f g xs)
 -- two lines, a line for each x, one line more, and a line for each y, where equal lines may stand in their place
 joined_lines : {X Y A : Type 0} {a a' c c' all_x all_y : List A} (b : List A) (f : X → List A) (xs : List X) (g : Y → List A) (ys : List Y) → a ≡ a' → flat_map f xs ≡ all_x → c ≡ c' → flat_map g ys ≡ all_y → flat_map (λ l. l) (a ∷ b ∷ (map f xs ++ c ∷ map g ys)) ≡ a' ++ (b ++ (all_x ++ (c' ++ all_y)))
 joined_lines b f xs g ys first many next more =
-    let rest = joined_append (λ l. l) (map f xs) (_ ∷ map g ys) ∙ (λ i. (joined_map (λ l. l) f xs ∙ many) i ++ (next i ++ (joined_map (λ l. l) g ys ∙ more) i)) in
+    let rest = flat_map-append (λ l. l) (map f xs) (_ ∷ map g ys) ∙ (λ i. (joined_map (λ l. l) f xs ∙ many) i ++ (next i ++ (joined_map (λ l. l) g ys ∙ more) i)) in
     λ i. first i ++ (b ++ rest i)
 
 written_plain : (s : Sheet) → WellWritten s → flat_map (λ l. l) (lines_of s) ≡ encoded (plain (view s))
@@ -85,7 +84,19 @@ says_again bytes s well read =
       says = plain_means (view s);
     })
 
+-- each text of a sheet is written as it must be
+doubled : (texts : List Text) → map (λ (t : Text). t.written.now) texts ≡ map inner (map text_of texts)
+doubled [] = refl
+doubled (t ∷ ts) = λ i. t.is_doubled i ∷ doubled ts i
+
+well_written : (s : Sheet) → WellWritten s
+well_written s = record { style = s.style.is_doubled; names = doubled s.names.items }
+
+pub written_well : (r : Result Sheet Refusal) → IfOk r WellWritten
+written_well (Ok s) = well_written s
+written_well (Err e) = tt
+
 -- what was read, written back
-pub read_again : (bytes : List ℕ) (r : Result Sheet Refusal) → contents r ≡ sheet_of bytes → IfOk r WellWritten → IfOk r SaysAgain
-read_again bytes (Ok s) value well = says_again bytes s well (sym value)
-read_again bytes (Err e) value well = tt
+pub read_again : (bytes : List ℕ) (r : Result Sheet Refusal) → contents r ≡ sheet_of bytes → IfOk r SaysAgain
+read_again bytes (Ok s) value = says_again bytes s (well_written s) (sym value)
+read_again bytes (Err e) value = tt

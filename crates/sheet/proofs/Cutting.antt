@@ -1,51 +1,48 @@
--- Where a line ends: the scan for its byte 10.
-use Rattle.std.proofs.Common.{◌≡◌, ℕ, ◌+◌, ◌-◌, ◌<◌, ◌≤◌, List, [], ◌∷◌, ◌++◌, length, get_or, take, drop, Some, None, Option, sym, refl, ap, ◌∙◌, append_assoc, arith, length-drop}
-use Rattle.std.proofs.lemmas.List.{append-nil, take_more, get_or-drop, at_drop_more, drop_all}
-use Rattle.std.proofs.lemmas.Bool.{eq-eqb, ne_eqb, cond-true, cond-false}
+-- The first byte 10 cuts the bytes.
+use Rattle.std.proofs.Common.{◌≡◌, ℕ, suc, ◌+◌, ◌<◌, ◌≤◌, Bool, true, false, cond, not, eqb, nat_lt, List, [], ◌∷◌, length, take, drop, Some, None, Option, sym, refl, ap, ◌∙◌, subst, arith}
+use Rattle.std.proofs.lemmas.Bool.{ltb-true, ltb-false}
+use Rattle.std.specs.List.{position, position_or_len}
 use Rattle.sheet.specs.Format.{cut, longer}
-use Rattle.sheet.specs.Ends.{cut_at}
 
--- a line with more bytes in front
-abbrev pub fronted : List ℕ → Option (List ℕ × List ℕ) → Option (List ℕ × List ℕ)
-fronted xs (Some p) = Some (xs ++ p.0, p.1)
-fronted xs None = None
+abbrev ends : ℕ → Bool
+ends b = eqb b 10
 
-fronted_longer : (xs : List ℕ) (b : ℕ) (r : Option (List ℕ × List ℕ)) → fronted xs (longer b r) ≡ fronted (xs ++ b ∷ []) r
-fronted_longer xs b (Some p) = ap (λ l. Some (l, p.1)) (sym (append_assoc xs (b ∷ []) p.0))
-fronted_longer xs b None = refl
+abbrev cut_behind : ℕ → List ℕ → Option (List ℕ × List ℕ)
+cut_behind n bytes = Some (take n bytes, drop (n + 1) bytes)
 
-pub fronted_none : (r : Option (List ℕ × List ℕ)) → r ≡ fronted [] r
-fronted_none (Some p) = refl
-fronted_none None = refl
+cut_at : (bytes : List ℕ) (n : ℕ) → position_or_len ends bytes ≡ n → n < length bytes → cut bytes ≡ cut_behind n bytes
+cut_at [] n is less = absurd (omega arith)
+cut_at (b ∷ bs) n is less = go (cut_at bs) (eqb b 10) is
+  where
+    go : ((m : ℕ) → position_or_len ends bs ≡ m → m < length bs → cut bs ≡ cut_behind m bs) → (t : Bool) → cond (not t) (1 + position_or_len ends bs) 0 ≡ n → cond t (Some ([], bs)) (longer b (cut bs)) ≡ cut_behind n (b ∷ bs)
+    go ih true e = subst (λ k. cut_behind 0 (b ∷ bs) ≡ cut_behind k (b ∷ bs)) e refl
+    go ih false e =
+        let m = position_or_len ends bs in
+        let next : suc m ≡ n = omega arith in
+        let more : suc m + 1 ≡ suc (m + 1) = omega arith in
+        subst (λ k. longer b (cut bs) ≡ cut_behind k (b ∷ bs)) next
+        (ap (longer b) (ih m refl (omega arith)) ∙ ap (λ k. Some (b ∷ take m bs, drop k (b ∷ bs))) (sym more))
 
-module _ (bytes : List ℕ) (place i : ℕ) where
-  -- the scan has come to i
-  abbrev pub Scanned : Type 0
-  Scanned = cut (drop place bytes) ≡ fronted (take (i - place) (drop place bytes)) (cut (drop i bytes))
+cut_never : (bytes : List ℕ) → length bytes ≤ position_or_len ends bytes → cut bytes ≡ None
+cut_never [] all = refl
+cut_never (b ∷ bs) all = go (cut_never bs) (eqb b 10) all
+  where
+    go : (length bs ≤ position_or_len ends bs → cut bs ≡ None) → (t : Bool) → suc (length bs) ≤ cond (not t) (1 + position_or_len ends bs) 0 → cond t (Some ([], bs)) (longer b (cut bs)) ≡ None
+    go ih true h = absurd (omega arith)
+    go ih false h = ap (longer b) (ih (omega arith))
 
-  module _ (past : place ≤ i) (inside : i < length bytes) (inv : Scanned) where
-    pub scanned_on : (get_or bytes i 0 ≡ 10 → ⊥) → cut (drop place bytes) ≡ fronted (take (i + 1 - place) (drop place bytes)) (cut (drop (i + 1) bytes))
-    scanned_on other =
-        let size : i + 1 - place ≡ i - place + 1 = omega arith in
-        let within : i - place < length (drop place bytes) = omega (arith, length-drop place bytes) in
-        let here : place + (i - place) ≡ i = omega arith in
-        inv
-        ∙ ap (fronted (take (i - place) (drop place bytes))) (at_drop_more cut bytes i 0 inside ∙ cond-false _ _ _ (ne_eqb (get_or bytes i 0) 10 other))
-        ∙ fronted_longer (take (i - place) (drop place bytes)) (get_or bytes i 0) (cut (drop (i + 1) bytes))
-        ∙ ap (λ b. fronted (take (i - place) (drop place bytes) ++ b ∷ []) (cut (drop (i + 1) bytes))) (sym (get_or-drop place bytes (i - place) 0 ∙ ap (λ k. get_or bytes k 0) here))
-        ∙ ap (λ l. fronted l (cut (drop (i + 1) bytes))) (sym (take_more (drop place bytes) (i - place) 0 within))
-        ∙ ap (λ k. fronted (take k (drop place bytes)) (cut (drop (i + 1) bytes))) (sym size)
+-- where the first byte 10 was found, and where none was
+module _ (bytes : List ℕ) where
+  pub cut_found : (end : ℕ) → Some end ≡ position ends bytes → cut bytes ≡ Some (take end bytes, drop (end + 1) bytes)
+  cut_found end found = go (nat_lt (position_or_len ends bytes) (length bytes)) refl found
+    where
+      go : (b : Bool) → nat_lt (position_or_len ends bytes) (length bytes) ≡ b → Some end ≡ cond b (Some (position_or_len ends bytes)) None → cut bytes ≡ Some (take end bytes, drop (end + 1) bytes)
+      go true is e = let same : position_or_len ends bytes ≡ end = cc in cut_at bytes end same (omega (arith, ltb-true _ _ is))
+      go false is e = let z : ◌≡◌ {A = ℕ} 0 1 = cc in absurd (omega arith)
 
-    pub ended_here : get_or bytes i 0 ≡ 10 → cut_at bytes place (Some i) ≡ cut (drop place bytes)
-    ended_here is = sym (
-        inv
-        ∙ ap (fronted (take (i - place) (drop place bytes))) (at_drop_more cut bytes i 0 inside ∙ cond-true _ _ _ (eq-eqb (get_or bytes i 0) 10 is))
-        ∙ ap (λ l. Some (l, drop (i + 1) bytes)) (append-nil (take (i - place) (drop place bytes))))
-
-  pub never_ended : length bytes ≤ i → Scanned → cut_at bytes place None ≡ cut (drop place bytes)
-  never_ended all inv = sym (inv ∙ ap (λ l. fronted (take (i - place) (drop place bytes)) (cut l)) (drop_all i bytes all))
-
-pub unscanned : (bytes : List ℕ) (place : ℕ) → Scanned bytes place place
-unscanned bytes place =
-    let none : place - place ≡ 0 = omega arith in
-    fronted_none (cut (drop place bytes)) ∙ ap (λ k. fronted (take k (drop place bytes)) (cut (drop place bytes))) (sym none)
+  pub cut_missing : None ≡ position ends bytes → cut bytes ≡ None
+  cut_missing missing = go (nat_lt (position_or_len ends bytes) (length bytes)) refl missing
+    where
+      go : (b : Bool) → nat_lt (position_or_len ends bytes) (length bytes) ≡ b → None ≡ cond b (Some (position_or_len ends bytes)) None → cut bytes ≡ None
+      go true is e = let z : ◌≡◌ {A = ℕ} 0 1 = cc in absurd (omega arith)
+      go false is e = cut_never bytes (ltb-false _ _ is)

@@ -72,20 +72,14 @@ naturals ds n = (sound, complete)
         ∙ ap Some (digits_value-decimal own n big)
 
 -- the reader's loop
-pub digit_low : (c : ℕ) → c < 48 → is_ascii_digit c ≡ false
-digit_low c h = and_left (leb 48 c) _ (lt-leb 48 c h)
-
-pub digit_high : (c : ℕ) → 57 < c → is_ascii_digit c ≡ false
-digit_high c h = and_right (leb 48 c) _ (lt-leb c 57 h)
-
-pub digit_yes : (c : ℕ) → 48 ≤ c → c ≤ 57 → is_ascii_digit c ≡ true
-digit_yes c low high = and_from (leb 48 c) _ (le-leb 48 c low) (le-leb c 57 high)
-
 pub digits_drop : (text : List ℕ) (i : ℕ) → i < length text → all_ascii_digits (drop i text) ≡ (is_ascii_digit (get_or text i 0) && all_ascii_digits (drop (i + 1) text))
 digits_drop text i h = at_drop_more all_ascii_digits text i 0 h
 
 pub unclean : (text : List ℕ) → all_ascii_digits text ≡ false → natural text ≡ None
 unclean text e = cond-false _ _ _ (and_right (leb 1 (length text) && leb (length text) 10) _ (and_right (not (eqb (get_or text 0 0) 48 && leb 2 (length text))) _ e))
+
+pub digit_most : (c : ℕ) → is_ascii_digit c ≡ true → c - 48 ≤ 9
+digit_most c is = omega (arith, leb-true c 57 (and_parts (leb 48 c) (leb c 57) is).1)
 
 pub more_digits : (v i d : ℕ) → v < 10 ^ i → d ≤ 9 → v * 10 + d < 10 ^ (i + 1)
 more_digits v i d h k = omega (arith, ap (λ j. 10 ^ j) (add-one i) ∙ pow-suc 10 i)

@@ -22,7 +22,7 @@ longer_some : (b : ℕ) (r : Option (List ℕ × List ℕ)) {p : List ℕ × Lis
 longer_some b (Some q) e = (q, refl, cc)
 longer_some b None e = absurd (not_some e)
 
-cut_sound : (bytes : List ℕ) (p : List ℕ × List ℕ) → cut bytes ≡ Some p → bytes ≡ p.0 ++ 10 ∷ p.1
+pub cut_sound : (bytes : List ℕ) (p : List ℕ × List ℕ) → cut bytes ≡ Some p → bytes ≡ p.0 ++ 10 ∷ p.1
 cut_sound [] p e = absurd (not_some e)
 cut_sound (b ∷ bs) p e = go (cut_sound bs) (eqb b 10) refl e
   where
@@ -34,7 +34,7 @@ cut_complete : (front left : List ℕ) → Clear front → cut (front ++ 10 ∷ 
 cut_complete [] left clear = refl
 cut_complete (b ∷ bs) left clear = cond-false _ _ _ clear.0 ∙ ap (longer b) (cut_complete bs left clear.1)
 
-behind_sound : (key bytes rest : List ℕ) → behind key bytes ≡ Some rest → bytes ≡ key ++ rest
+pub behind_sound : (key bytes rest : List ℕ) → behind key bytes ≡ Some rest → bytes ≡ key ++ rest
 behind_sound [] bytes rest e = cc
 behind_sound (c ∷ cs) [] rest e = absurd (not_some e)
 behind_sound (c ∷ cs) (b ∷ bs) rest e = go (behind_sound cs bs rest) (eqb b c) refl e

@@ -1,20 +1,28 @@
 -- One line on, the rest of the sheet makes the same of the contents.
-use Rattle.std.proofs.Common.{◌≡◌, ℕ, zero, suc, ◌+◌, ◌-◌, ◌<◌, ◌≤◌, Bool, true, false, cond, eqb, List, [], ◌∷◌, length, take, drop, ℤ, Some, None, Ok, Err, Option, Result, sym, refl, ap, ◌∙◌, subst, arith, length-drop, rules}
-use Rattle.std.proofs.lemmas.Bool.{both_ways, eqb-true, eqb-false, eq-eqb, ne_eqb, cond-true, cond-false}
+use Rattle.std.proofs.Common.{◌≡◌, ℕ, zero, suc, ◌+◌, ◌<◌, ◌≤◌, Bool, true, false, cond, eqb, List, [], ◌∷◌, ◌++◌, length, ℤ, Some, None, Ok, Err, Option, Result, sym, refl, ap, ◌∙◌, subst, append_assoc, arith, length-append, rules}
+use Rattle.std.proofs.lemmas.List.{append-nil}
+use Rattle.std.proofs.lemmas.Bool.{both_ways, eqb-true, eqb-false}
 use Rattle.base.specs.declared.refusal.Cause.{Cause}
 use Rattle.base.specs.declared.refusal.Cause.TheVariants.{SheetLine}
 use Rattle.base.specs.declared.refusal.Refusal.{Refusal}
 use Rattle.base.specs.Refusals.{refused}
 use Rattle.sheet.specs.declared.line.Key.{Key}
 use Rattle.sheet.specs.declared.line.Key.TheVariants as key
+use Rattle.sheet.specs.declared.line.Line.{Line}
 use Rattle.sheet.specs.declared.sheet.Sheet.{Sheet}
 use Rattle.sheet.specs.declared.section.Section.{Section}
 use Rattle.sheet.specs.declared.section.Section.TheVariants.{Style, Names, Name, Asks, Ask, End}
 use Rattle.sheet.specs.Format.{Contents, Place, ◌>>=◌, behind, cut, judged, keyed, ended, line, text, count, name, ask, with_name, with_ask, names_line, name_lines, ask_lines, titled, sheet_of}
 use Rattle.sheet.specs.Keys.{key_bytes}
-use Rattle.sheet.specs.Ends.{Head, Keyless}
+use Rattle.sheet.specs.Ends.{Head, Heads, Keyless}
+use Rattle.std.specs.Result.{MatchResult}
 use Rattle.sheet.specs.Sections.{with_style, names_left, asks_left, outcome, leads, says, key_number, wanted_number, judged_line, is_last, Roomy}
-use Rattle.sheet.specs.View.{source, view, WellWritten}
+use Rattle.sheet.specs.Parts.{IsPart}
+use Rattle.sheet.specs.View.{view, written_style, written_names, StandsIn}
+use Rattle.sheet.proofs.Lines.{cut_sound, behind_sound}
+use Rattle.sheet.proofs.Parting.{whole_part, empty_part, part_part}
+use Rattle.std.specs.List.{All}
+use Rattle.std.proofs.lemmas.List.Elements.{All-nil}
 
 names_next : (n : ℕ) (c : Contents) (p : Place) → name_lines c n p ≡ outcome (names_left n) c p
 names_next zero c p = refl
@@ -122,90 +130,96 @@ key_is k s o e = search rules
 other_key : (k : Key) (s : Section) → is_last s ≡ false → eqb (key_number k) (wanted_number s) ≡ false → clash (key_bytes k) (key_bytes (wanted s)) ≡ true
 other_key k s o e = search rules
 
-module _ (s : Section) (c : Contents) (o : is_last s ≡ false) (n : ℕ) (bytes : List ℕ) (place : ℕ) (k : Key) (at end : ℕ) (h : Head bytes place k at end) where
-  abbrev rest : List ℕ
-  rest = drop at (take end bytes)
-
-  abbrev whole : List ℕ
-  whole = take (end - place) (drop place bytes)
-
-  wanted_rest : eqb (key_number k) (wanted_number s) ≡ true → behind (key_bytes (wanted s)) whole ≡ Some rest
-  wanted_rest e = ap (λ j. behind (key_bytes j) whole) (sym (key_is k s o e)) ∙ h.rest
+module _ (s : Section) (c : Contents) (o : is_last s ≡ false) (n : ℕ) (left : List ℕ) (l : Line) (h : Head left l) where
+  wanted_rest : eqb (key_number l.key) (wanted_number s) ≡ true → behind (key_bytes (wanted s)) h.whole ≡ Some l.rest.now
+  wanted_rest e = ap (λ j. behind (key_bytes j) h.whole) (sym (key_is l.key s o e)) ∙ h.rest
 
   -- a line that is taken in leads on to the next
-  pub taken_on : (t : Section) (d : Contents) → judged_line s k c rest ≡ Ok (t, d) → outcome s c (record { line = n; left = drop place bytes }) ≡ outcome t d (record { line = n + 1; left = drop (end + 1) bytes })
-  taken_on t d e = go (eqb (key_number k) (wanted_number s)) refl e
+  pub taken_on : (t : Section) (d : Contents) → judged_line s l.key c l.rest.now ≡ Ok (t, d) → outcome s c (record { line = n; left = left }) ≡ outcome t d (record { line = n + 1; left = l.behind.now })
+  taken_on t d e = go (eqb (key_number l.key) (wanted_number s)) refl e
     where
-      go : (b : Bool) → eqb (key_number k) (wanted_number s) ≡ b → cond b (says s c rest) (Err SheetLine) ≡ Ok (t, d) → outcome s c (record { line = n; left = drop place bytes }) ≡ outcome t d (record { line = n + 1; left = drop (end + 1) bytes })
-      go true is v = section_on s c o n (drop place bytes) whole (drop (end + 1) bytes) h.line rest t d (wanted_rest is) v
+      go : (b : Bool) → eqb (key_number l.key) (wanted_number s) ≡ b → cond b (says s c l.rest.now) (Err SheetLine) ≡ Ok (t, d) → outcome s c (record { line = n; left = left }) ≡ outcome t d (record { line = n + 1; left = l.behind.now })
+      go true is v = section_on s c o n left h.whole l.behind.now h.line l.rest.now t d (wanted_rest is) v
       go false is v = let z : ◌≡◌ {A = ℕ} 0 1 = cc in absurd (omega arith)
 
   -- a line that is not stops the reading
-  pub taken_off : (cause : Cause) → judged_line s k c rest ≡ Err cause → outcome s c (record { line = n; left = drop place bytes }) ≡ refused cause n
-  taken_off cause e = go (eqb (key_number k) (wanted_number s)) refl e
+  pub taken_off : (cause : Cause) → judged_line s l.key c l.rest.now ≡ Err cause → outcome s c (record { line = n; left = left }) ≡ refused cause n
+  taken_off cause e = go (eqb (key_number l.key) (wanted_number s)) refl e
     where
-      go : (b : Bool) → eqb (key_number k) (wanted_number s) ≡ b → cond b (says s c rest) (Err SheetLine) ≡ Err cause → outcome s c (record { line = n; left = drop place bytes }) ≡ refused cause n
-      go true is v = section_off s c o n (drop place bytes) whole (drop (end + 1) bytes) h.line rest cause (wanted_rest is) v
+      go : (b : Bool) → eqb (key_number l.key) (wanted_number s) ≡ b → cond b (says s c l.rest.now) (Err SheetLine) ≡ Err cause → outcome s c (record { line = n; left = left }) ≡ refused cause n
+      go true is v = section_off s c o n left h.whole l.behind.now h.line l.rest.now cause (wanted_rest is) v
       go false is v =
           let q : SheetLine ≡ cause = cc in
-          section_keyless s c o n (drop place bytes) whole (drop (end + 1) bytes) h.line (clashing (key_bytes k) (key_bytes (wanted s)) whole rest (other_key k s o is) h.rest)
+          section_keyless s c o n left h.whole l.behind.now h.line (clashing (key_bytes l.key) (key_bytes (wanted s)) h.whole l.rest.now (other_key l.key s o is) h.rest)
           ∙ ap (λ y. refused y n) q
 
--- where the reading stands, and that the rest makes of it what the whole sheet says
-pub record ReadingOn (bytes : List ℕ) (s : Section) (sheet : Sheet) (place n : ℕ) : Type 0 where
-  pub ahead : sheet_of bytes ≡ outcome s (view sheet) (record { line = n; left = drop place bytes })
-  pub from : source sheet ≡ bytes
-  pub well : WellWritten sheet
-  pub room : Roomy s (view sheet)
-  pub inside : place ≤ length bytes
-  pub counted : n ≤ place + 1
+-- a line by its parts
+module _ (left : List ℕ) (l : Line) (h : Head left l) where
+  left_is : left ≡ (key_bytes l.key ++ l.rest.now) ++ 10 ∷ l.behind.now
+  left_is = cut_sound left (h.whole, l.behind.now) h.line ∙ ap (λ w. w ++ 10 ∷ l.behind.now) (behind_sound (key_bytes l.key) h.whole l.rest.now h.rest)
 
-pub nothing_read : (bytes : List ℕ) (sheet : Sheet) → view sheet ≡ titled [] → source sheet ≡ bytes → WellWritten sheet → ReadingOn bytes Style sheet 0 1
-nothing_read bytes sheet empty from well = record {
+  pub shorter : length l.behind.now < length left
+  shorter = omega (arith, ap length left_is, length-append (key_bytes l.key ++ l.rest.now) (10 ∷ l.behind.now))
+
+  pub rest_part : IsPart left l.rest.now
+  rest_part = record { before = key_bytes l.key; after = 10 ∷ l.behind.now; is = left_is ∙ append_assoc (key_bytes l.key) l.rest.now (10 ∷ l.behind.now) }
+
+  pub behind_part : IsPart left l.behind.now
+  behind_part = record {
+    before = (key_bytes l.key ++ l.rest.now) ++ 10 ∷ [];
+    after = [];
+    is = left_is ∙ sym (append_assoc (key_bytes l.key ++ l.rest.now) (10 ∷ []) l.behind.now) ∙ ap (λ r. ((key_bytes l.key ++ l.rest.now) ++ 10 ∷ []) ++ r) (sym (append-nil l.behind.now));
+  }
+
+-- what a call gave that answered one of its two errors
+pub some_of : (left : List ℕ) {r : Option Line} {l : Line} → r ≡ Some l → Heads left r → Head left l
+some_of left is h = subst (Heads left) is h
+
+pub none_of : (left : List ℕ) {r : Option Line} → r ≡ None → Heads left r → (k : Key) → Keyless (key_bytes k) (cut left)
+none_of left is h = subst (Heads left) is h
+
+pub err_of : {X E : Type 0} {P : X → Type 0} {Q : E → Type 0} (r : Result X E) → MatchResult r P Q → ((x : X) → P x → ⊥) → (e : E) × (r ≡ Err e) × Q e
+err_of {X} {E} {P} {Q} (Ok x) h never = absurd (never x h)
+err_of {X} {E} {P} {Q} (Err e) h never = (e, refl, h)
+
+pub ok_of : {X E : Type 0} {Q : E → Type 0} (r : Result X E) {s : X} → MatchResult r (λ x. x ≡ s) Q → ((e : E) → Q e → ⊥) → r ≡ Ok s
+ok_of {X} {E} {Q} (Ok x) h never = ap Ok h
+ok_of {X} {E} {Q} (Err e) h never = absurd (never e h)
+
+-- where the reading stands, and that the rest makes of it what the whole sheet says
+pub record ReadingOn (bytes : List ℕ) (s : Section) (sheet : Sheet) (left : List ℕ) (n : ℕ) : Type 0 where
+  pub ahead : sheet_of bytes ≡ outcome s (view sheet) (record { line = n; left = left })
+  pub from : StandsIn bytes sheet
+  pub part : IsPart bytes left
+  pub room : Roomy s (view sheet)
+  pub counted : n + length left ≤ length bytes + 1
+
+pub nothing_read : (bytes : List ℕ) (sheet : Sheet) → view sheet ≡ titled [] → written_style sheet ≡ [] → written_names sheet ≡ [] → ReadingOn bytes Style sheet bytes 1
+nothing_read bytes sheet empty no_style no_names = record {
   ahead = ap (λ c. outcome Style c (record { line = 1; left = bytes })) (sym empty);
-  from = from;
-  well = well;
+  from = record { style = subst (IsPart bytes) (sym no_style) (empty_part bytes); names = subst (All (IsPart bytes)) (sym no_names) (All-nil (IsPart bytes)) };
+  part = whole_part bytes;
   room = subst (Roomy Style) (sym empty) (refl, refl);
-  inside = omega arith;
   counted = omega arith;
 }
 
-module _ (bytes : List ℕ) (s : Section) (sheet : Sheet) (place n : ℕ) (inv : ReadingOn bytes s sheet place n) where
+module _ {bytes : List ℕ} {s : Section} {sheet : Sheet} {left : List ℕ} {n : ℕ} (inv : ReadingOn bytes s sheet left n) where
   module _ (o : is_last s ≡ false) where
-    pub stopped_headless : ((k : Key) → Keyless (key_bytes k) (cut (drop place bytes))) → refused SheetLine n ≡ sheet_of bytes
-    stopped_headless none = sym (inv.ahead ∙ headless s (view sheet) o n (drop place bytes) none)
+    pub stopped_headless : ((k : Key) → Keyless (key_bytes k) (cut left)) → refused SheetLine n ≡ sheet_of bytes
+    stopped_headless none = sym (inv.ahead ∙ headless s (view sheet) o n left none)
 
-    module _ (k : Key) (at end : ℕ) (h : Head bytes place k at end) where
-      pub stopped_at : (cause : Cause) → Err cause ≡ judged_line s k (view sheet) (drop at (take end (source sheet))) → refused cause n ≡ sheet_of bytes
-      stopped_at cause e =
-          sym (inv.ahead ∙ taken_off s (view sheet) o n bytes place k at end h cause (ap (λ l. judged_line s k (view sheet) (drop at (take end l))) (sym inv.from) ∙ sym e))
+    module _ (l : Line) (h : Head left l) where
+      pub stopped_at : (cause : Cause) → Err cause ≡ judged_line s l.key (view sheet) l.rest.now → refused cause n ≡ sheet_of bytes
+      stopped_at cause e = sym (inv.ahead ∙ taken_off s (view sheet) o n left l h cause (sym e))
 
-      pub one_read : (t : Section) (next : Sheet) → Ok (t, view next) ≡ judged_line s k (view sheet) (drop at (take end (source sheet))) → source next ≡ source sheet → WellWritten next → Roomy t (view next) → ReadingOn bytes t next (end + 1) (n + 1)
-      one_read t next e from well room = record {
-        ahead = inv.ahead ∙ taken_on s (view sheet) o n bytes place k at end h t (view next) (ap (λ l. judged_line s k (view sheet) (drop at (take end l))) (sym inv.from) ∙ sym e);
-        from = from ∙ inv.from;
-        well = well;
+      pub part_read : IsPart bytes l.rest.now
+      part_read = part_part inv.part (rest_part left l h)
+
+      pub one_read : (t : Section) (next : Sheet) → Ok (t, view next) ≡ judged_line s l.key (view sheet) l.rest.now → StandsIn bytes next → Roomy t (view next) → ReadingOn bytes t next l.behind.now (n + 1)
+      one_read t next e from room = record {
+        ahead = inv.ahead ∙ taken_on s (view sheet) o n left l h t (view next) (sym e);
+        from = from;
+        part = part_part inv.part (behind_part left l h);
         room = room;
-        inside = omega (arith, h.inside);
-        counted = omega (arith, inv.counted, h.on, h.within);
+        counted = omega (arith, inv.counted, shorter left l h);
       }
-
-  end_is : is_last s ≡ true → s ≡ End
-  end_is e = go s e
-    where
-      go : (t : Section) → is_last t ≡ true → t ≡ End
-      go Style e = absurd (both_ways false refl e)
-      go Names e = absurd (both_ways false refl e)
-      go (Name m) e = absurd (both_ways false refl e)
-      go Asks e = absurd (both_ways false refl e)
-      go (Ask m) e = absurd (both_ways false refl e)
-      go End e = refl
-
-  at_end : is_last s ≡ true → sheet_of bytes ≡ cond (eqb (length (drop place bytes)) 0) (Ok (view sheet)) (refused SheetLine n)
-  at_end e = inv.ahead ∙ ap (λ t. outcome t (view sheet) (record { line = n; left = drop place bytes })) (end_is e)
-
-  pub more_left : is_last s ≡ true → place < length bytes → refused SheetLine n ≡ sheet_of bytes
-  more_left e h = sym (at_end e ∙ cond-false _ _ _ (ne_eqb (length (drop place bytes)) 0 (λ z. omega (arith, length-drop place bytes))))
-
-  pub all_read : is_last s ≡ true → length bytes ≤ place → Ok (view sheet) ≡ sheet_of bytes
-  all_read e h = sym (at_end e ∙ cond-true _ _ _ (eq-eqb (length (drop place bytes)) 0 (omega (arith, length-drop place bytes))))

@@ -1,57 +1,64 @@
--- Two written forms, byte of text by byte of text.
-use Rattle.std.proofs.Common.{◌≡◌, ℕ, ◌+◌, ◌<◌, ◌≤◌, Bool, true, false, ◌&&◌, eqb, leb, ◌⊎◌, List, [], ◌∷◌, length, get_or, drop, sym, ap, ◌∙◌, inl, inr, arith}
-use Rattle.std.proofs.lemmas.List.{drop_more, drop_all}
-use Rattle.std.proofs.lemmas.Bool.{eq-eqb, ne_eqb, le-leb, lt-leb, and_left, cases_lt}
-use Rattle.sheet.specs.Part.{single}
+-- Two texts are the same if their written forms agree with A to Z read as a to z.
+use Rattle.std.proofs.Common.{◌≡◌, ℕ, Bool, true, false, eqb, ◌↔◌, List, [], ◌∷◌, ◌++◌, map, sym, refl, ap, ◌∙◌, inl, inr, arith}
+use Rattle.std.specs.Bool.{IsTrue}
+use Rattle.std.specs.Char.{to_ascii_lowercase}
+use Rattle.std.proofs.lemmas.Bool.{cases_eq, eqb-true, eq-eqb, and_parts, and_from}
+use Rattle.std.proofs.lemmas.Bool.Decides.{nat_tests}
+use Rattle.std.proofs.lemmas.List.{map-append}
+use Rattle.sheet.specs.declared.text.Text.{Text}
+use Rattle.sheet.specs.Text.{letter, inner, single}
+use Rattle.sheet.specs.Texts.{text_of}
 use Rattle.sheet.specs.Same.{lower, same_text}
+use Rattle.sheet.proofs.Letters.{one, two, single_inner}
 
-module _ (written : List ℕ) (at : ℕ) (inside : at < length written) where
-  first : single false (drop at written) ≡ get_or written at 0 ∷ single (eqb (get_or written at 0) 34) (drop (at + 1) written)
-  first = ap (single false) (drop_more written at 0 inside)
+lower_is : (c : ℕ) → to_ascii_lowercase c ≡ lower c
+lower_is c = grind (arith, nat_tests)
 
-  -- the second of two quotes is passed over
-  pub behind_quote : {next : ℕ} → next ≡ at + 2 → get_or written at 0 ≡ 34 → at + 1 < length written → single false (drop at written) ≡ get_or written at 0 ∷ single false (drop next written)
-  behind_quote {next} on is more =
-      let two : at + 1 + 1 ≡ next = omega arith in
-      first
-      ∙ ap (λ b. get_or written at 0 ∷ single b (drop (at + 1) written)) (eq-eqb (get_or written at 0) 34 is)
-      ∙ ap (λ l. get_or written at 0 ∷ single true l) (drop_more written (at + 1) 0 more)
-      ∙ ap (λ k. get_or written at 0 ∷ single false (drop k written)) two
+all_lower : (w : List ℕ) → map to_ascii_lowercase w ≡ map lower w
+all_lower [] = refl
+all_lower (c ∷ cs) = λ i. lower_is c i ∷ all_lower cs i
 
-  -- anything else is one byte
-  pub behind_one : {next : ℕ} → next ≡ at + 1 → (length written ≤ at + 1) ⊎ (get_or written at 0 ≡ 34 → ⊥) → single false (drop at written) ≡ get_or written at 0 ∷ single false (drop next written)
-  behind_one {next} on either = here either ∙ ap (λ k. get_or written at 0 ∷ single false (drop k written)) (sym on)
-    where
-      here : (length written ≤ at + 1) ⊎ (get_or written at 0 ≡ 34 → ⊥) → single false (drop at written) ≡ get_or written at 0 ∷ single false (drop (at + 1) written)
-      here (inl all) =
-          let none : drop (at + 1) written ≡ [] = drop_all (at + 1) written all in
-          first
-          ∙ ap (λ l. get_or written at 0 ∷ single (eqb (get_or written at 0) 34) l) none
-          ∙ ap (λ l. get_or written at 0 ∷ single false l) (sym none)
-      here (inr other) = first ∙ ap (λ b. get_or written at 0 ∷ single b (drop (at + 1) written)) (ne_eqb (get_or written at 0) 34 other)
+-- no letter becomes a quote
+lower_other : (c : ℕ) → (c ≡ 34 → ⊥) → lower c ≡ 34 → ⊥
+lower_other c other e = grind (arith, nat_tests)
 
--- what is left of two written forms is compared as the whole
-abbrev pub left_alike : List ℕ → List ℕ → ℕ → ℕ → Bool
-left_alike a b i j = same_text (single false (drop i a)) (single false (drop j b))
-
-module _ (a b : List ℕ) (i j k l : ℕ) (at_a : single false (drop i a) ≡ get_or a i 0 ∷ single false (drop k a)) (at_b : single false (drop j b) ≡ get_or b j 0 ∷ single false (drop l b)) where
-  one_on : left_alike a b i j ≡ (eqb (lower (get_or a i 0)) (lower (get_or b j 0)) && left_alike a b k l)
-  one_on = λ t. same_text (at_a t) (at_b t)
-
-  pub alike_on : lower (get_or a i 0) ≡ lower (get_or b j 0) → left_alike a b k l ≡ left_alike a b i j
-  alike_on e = sym (one_on ∙ ap (λ v. v && left_alike a b k l) (eq-eqb (lower (get_or a i 0)) (lower (get_or b j 0)) e))
-
-pub unlike : (a b : List ℕ) (i j : ℕ) → i < length a → j < length b → (lower (get_or a i 0) ≡ lower (get_or b j 0) → ⊥) → left_alike a b i j ≡ false
-unlike a b i j in_a in_b e =
-    (λ t. same_text (first a i in_a t) (first b j in_b t))
-    ∙ and_left _ _ (ne_eqb (lower (get_or a i 0)) (lower (get_or b j 0)) e)
-
--- the first form is over: they are the same exactly if the other is over too
-pub first_over : (a b : List ℕ) (i j : ℕ) → length a ≤ i → leb (length b) j ≡ left_alike a b i j
-first_over a b i j over = elim (cases_lt j (length b)) [
-  | inl in_b ↦ lt-leb (length b) j in_b ∙ sym (λ t. same_text (single false (drop_all i a over t)) (first b j in_b t))
-  | inr all ↦ le-leb (length b) j all ∙ sym (λ t. same_text (single false (drop_all i a over t)) (single false (drop_all j b all t)))
+lower_letter : (c : ℕ) → map lower (letter c) ≡ letter (lower c)
+lower_letter c = elim (cases_eq c 34) [
+  | inl is ↦ ap (map lower) (two c is) ∙ sym (two (lower c) (ap lower is))
+  | inr other ↦ ap (map lower) (one c other) ∙ sym (one (lower c) (lower_other c other))
 ]
 
-pub other_over : (a b : List ℕ) (i j : ℕ) → i < length a → length b ≤ j → leb (length a) i ≡ left_alike a b i j
-other_over a b i j in_a over = lt-leb (length a) i in_a ∙ sym (λ t. same_text (first a i in_a t) (single false (drop_all j b over t)))
+lower_inner : (t : List ℕ) → map lower (inner t) ≡ inner (map lower t)
+lower_inner [] = refl
+lower_inner (c ∷ cs) = map-append lower (letter c) (inner cs) ∙ (λ i. lower_letter c i ++ lower_inner cs i)
+
+same_lowered : (s t : List ℕ) → map lower s ≡ map lower t → same_text s t ≡ true
+same_lowered [] [] e = refl
+same_lowered [] (b ∷ bs) e = let z : ◌≡◌ {A = ℕ} 0 1 = cc in absurd (omega arith)
+same_lowered (a ∷ as') [] e = let z : ◌≡◌ {A = ℕ} 0 1 = cc in absurd (omega arith)
+same_lowered (a ∷ as') (b ∷ bs) e =
+    let first : lower a ≡ lower b = cc in
+    let rest : map lower as' ≡ map lower bs = cc in
+    and_from (eqb (lower a) (lower b)) _ (eq-eqb (lower a) (lower b) first) (same_lowered as' bs rest)
+
+lowered_same : (s t : List ℕ) → same_text s t ≡ true → map lower s ≡ map lower t
+lowered_same [] [] e = refl
+lowered_same [] (b ∷ bs) e = let z : ◌≡◌ {A = ℕ} 0 1 = cc in absurd (omega arith)
+lowered_same (a ∷ as') [] e = let z : ◌≡◌ {A = ℕ} 0 1 = cc in absurd (omega arith)
+lowered_same (a ∷ as') (b ∷ bs) e =
+    let parts = and_parts (eqb (lower a) (lower b)) (same_text as' bs) e in
+    (λ i. eqb-true (lower a) (lower b) parts.0 i ∷ lowered_same as' bs parts.1 i)
+
+lowered : (t : Text) → map to_ascii_lowercase t.written.now ≡ inner (map lower (text_of t))
+lowered t = all_lower t.written.now ∙ ap (map lower) t.is_doubled ∙ lower_inner (text_of t)
+
+-- so written forms may be compared as they stand
+pub same_written : (a b : Text) (r : Bool) → (IsTrue r ↔ (map to_ascii_lowercase a.written.now ≡ map to_ascii_lowercase b.written.now)) → r ≡ same_text (text_of a) (text_of b)
+same_written a b true is =
+    let e = sym (lowered a) ∙ is.0 refl ∙ lowered b in
+    sym (same_lowered (text_of a) (text_of b) (sym (single_inner (map lower (text_of a))) ∙ ap (single false) e ∙ single_inner (map lower (text_of b))))
+same_written a b false is = go (same_text (text_of a) (text_of b)) refl
+  where
+    go : (q : Bool) → same_text (text_of a) (text_of b) ≡ q → false ≡ q
+    go true e = is.1 (lowered a ∙ ap inner (lowered_same (text_of a) (text_of b) e) ∙ sym (lowered b))
+    go false e = refl

@@ -9,8 +9,8 @@ use Rattle.sheet.specs.Quoted.{after, body, nonempty, unquoted, extent, sized, w
 use Rattle.base.specs.Refusals.{refused}
 use Rattle.lines.specs.Overlay.{room, overlaid, piece}
 use Rattle.sheet.specs.RoundTrips.{Begins, ReadsExactly, Rewrites, ReadsBack}
-use Rattle.sheet.proofs.Reading.{body_plain, body_two, body_closed}
-use Rattle.sheet.proofs.Writing.{one, two, letters, quoted_size}
+use Rattle.sheet.proofs.Reading.{body_plain, body_two, body_closed, head_is}
+use Rattle.sheet.proofs.Letters.{one, two, letters, quoted_size}
 
 some_none : {X : Type 0} {x : X} → ◌≡◌ {A = Option X} None (Some x) → ⊥
 some_none e = let z : ◌≡◌ {A = ℕ} 0 1 = cc in omega arith
@@ -26,10 +26,6 @@ record Stood (n : ℕ) (bytes text : List ℕ) : Type 0 where
   stops : get_or rest 0 0 ≡ 34 → ⊥
   clean : all_printable text ≡ true
   few : length text < n
-
-head_is : (bs : List ℕ) → get_or bs 0 0 ≡ 34 → bs ≡ 34 ∷ drop 1 bs
-head_is [] e = absurd (omega arith)
-head_is (b ∷ bs) e = ap (λ (k : ℕ). k ∷ bs) e
 
 body_sound : (n : ℕ) (bytes text : List ℕ) → body n bytes ≡ Some text → Stood n bytes text
 body_sound zero bytes text e = absurd (some_none e)

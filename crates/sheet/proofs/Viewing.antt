@@ -1,59 +1,69 @@
--- What a sheet says of its names, one by one.
-use Rattle.std.proofs.Common.{◌≡◌, ℕ, ◌+◌, ◌<◌, ◌≤◌, min, true, false, cond, List, [], length, get_or, take, drop, Some, None, sym, ap, ◌∙◌, arith}
-use Rattle.std.specs.List.{slice_get}
-use Rattle.std.proofs.lemmas.List.{at_drop_more, at_drop_all}
-use Rattle.std.proofs.lemmas.Option.{slice_get-get_or, slice_get_past}
-use Rattle.std.proofs.lemmas.Bool.{cond-true, cond-false}
-use Rattle.sheet.specs.declared.extent.Extent.{Extent}
-use Rattle.sheet.specs.declared.sheet.Sheet.{Sheet}
-use Rattle.sheet.specs.Part.{part, text_at}
+-- The names of a sheet, one by one, and the lines that it is written back in.
+use Rattle.std.proofs.Common.{◌≡◌, ℕ, suc, ◌+◌, ◌-◌, ◌<◌, Bool, true, false, List, [], ◌∷◌, ◌++◌, map, cond, get_or, length, take, drop, Some, None, sym, refl, ap, ◌∙◌, arith}
+use Rattle.std.specs.List.{position, position_from}
+use Rattle.std.proofs.lemmas.List.{take_at, get_or-map, get_or_append_left, length-map}
+use Rattle.std.proofs.lemmas.Bool.{cond-true}
+use Rattle.std.proofs.lemmas.Iterator.Adapters.{position_from-zero}
+use Rattle.sheet.specs.Text.{good, inner, quoted, single}
+use Rattle.sheet.specs.Quoted.{quoted_form}
 use Rattle.sheet.specs.Same.{same_text}
 use Rattle.sheet.specs.Format.{lookup}
-use Rattle.sheet.specs.View.{source, written_names, view}
-use Rattle.sheet.proofs.Parting.{take_min}
-use Rattle.sheet.proofs.Filling.{length_filled, filled_at}
+use Rattle.sheet.specs.Lookup.{number_of}
+use Rattle.sheet.proofs.Letters.{letters, quoted_size, single_inner}
 
-pub name_past : (s : Sheet) (i : ℕ) → length (view s).names ≤ i → None ≡ slice_get (written_names s) i
-name_past s i h =
-    let texts = length_filled (text_at (source s)) s.names s.name_count in
-    let parts = length_filled (part (source s)) s.names s.name_count in
-    sym (slice_get_past (written_names s) i (omega arith))
+module _ {X : Type 0} (f : X → List ℕ) (t : List ℕ) where
+  abbrev same_as : X → Bool
+  same_as x = same_text (f x) t
 
-module _ (s : Sheet) (wide : length s.names ≡ 128) where
-  pub count_is : length (view s).names ≡ min s.name_count 128
-  count_is = length_filled (text_at (source s)) s.names s.name_count ∙ ap (min s.name_count) wide
+  from_position : (xs : List X) (i : ℕ) → position_from same_as i xs ≡ lookup (map f xs) t i
+  from_position [] i = refl
+  from_position (x ∷ xs) i = ap (cond (same_as x) (Some i)) (from_position xs (i + 1))
 
-  abbrev extent_at : ℕ → Extent
-  extent_at i = get_or s.names i (record { begin = 0; end = 0 })
+  -- the first name that is the same
+  pub first_same : (xs : List X) → position same_as xs ≡ lookup (map f xs) t 0
+  first_same xs = position_from-zero same_as xs ∙ from_position xs 0
 
-  pub name_at : (i : ℕ) {n : ℕ} {shown : List ℕ} → i < length (view s).names → n ≡ i → shown ≡ part (source s) (extent_at i) → Some shown ≡ slice_get (written_names s) n
-  name_at i {n} {shown} h same is =
-      let count = count_is in
-      let long = length_filled (part (source s)) s.names s.name_count in
-      ap Some is
-      ∙ sym (ap (slice_get (written_names s)) same ∙ slice_get-get_or (written_names s) i [] (omega arith) ∙ ap Some (filled_at (part (source s)) s.names s.name_count i (record { begin = 0; end = 0 }) [] (omega arith) (omega arith)))
+-- a plain text is looked up by what stands between the quotes of its quoted form
+module _ (t whole shown : List ℕ) (formed : Some whole ≡ quoted_form t) (is : shown ≡ whole) where
+  form_of : (good t ≡ true) × (whole ≡ quoted t)
+  form_of = go (good t) refl formed
+    where
+      go : (b : Bool) → good t ≡ b → Some whole ≡ cond b (Some (quoted t)) None → (good t ≡ true) × (whole ≡ quoted t)
+      go true g e = (g, cc)
+      go false g e = let z : ◌≡◌ {A = ℕ} 0 1 = cc in absurd (omega arith)
 
-  -- a search among the names has come to i
-  module _ (t : List ℕ) (i : ℕ) (inv : lookup (drop i (view s).names) t i ≡ lookup (view s).names t 0) where
-    module _ (inside : i < length (view s).names) where
-      here : lookup (drop i (view s).names) t i ≡ cond (same_text (text_at (source s) (extent_at i)) t) (Some i) (lookup (drop (i + 1) (view s).names) t (i + 1))
-      here =
-          let count = count_is in
-          at_drop_more (λ l. lookup l t i) (view s).names i [] inside
-          ∙ ap (λ n. cond (same_text n t) (Some i) (lookup (drop (i + 1) (view s).names) t (i + 1))) (filled_at (text_at (source s)) s.names s.name_count i (record { begin = 0; end = 0 }) [] (omega arith) (omega arith))
+  abbrev pub between : List ℕ
+  between = take (length shown - 1 - 1) (drop 1 shown)
 
-      pub found_here : true ≡ same_text (text_at (source s) (extent_at i)) t → Some i ≡ lookup (view s).names t 0
-      found_here is = sym (sym inv ∙ here ∙ cond-true _ _ _ (sym is))
+  between_is : between ≡ inner t
+  between_is =
+      let quoted_is : shown ≡ quoted t = is ∙ form_of.1 in
+      let size : length shown - 1 - 1 ≡ letters t = omega (arith, ap length quoted_is, quoted_size t) in
+      (λ i. take (size i) (drop 1 (quoted_is i))) ∙ take_at (inner t) (34 ∷ []) (letters t) refl
 
-      pub not_here : false ≡ same_text (text_at (source s) (extent_at i)) t → lookup (drop (i + 1) (view s).names) t (i + 1) ≡ lookup (view s).names t 0
-      not_here is = sym (here ∙ cond-false _ _ _ (sym is)) ∙ inv
+  pub between_doubled : between ≡ inner (single false between)
+  between_doubled = between_is ∙ ap inner (sym (ap (single false) between_is ∙ single_inner t))
 
-pub asks_are : (s : Sheet) (n : ℕ) → length s.asks ≡ 128 → n ≡ min s.ask_count 128 → take n s.asks ≡ (view s).asks
-asks_are s n wide is = ap (λ k. take k s.asks) (is ∙ ap (min s.ask_count) (sym wide)) ∙ take_min s.asks s.ask_count
+  pub found_plain : (names : List (List ℕ)) → lookup names (single false between) 0 ≡ number_of names t
+  found_plain names = ap (λ l. lookup names l 0) (ap (single false) between_is ∙ single_inner t) ∙ sym (cond-true _ _ _ form_of.0)
 
-pub nowhere_found : (names : List (List ℕ)) (t : List ℕ) (i : ℕ) → lookup (drop i names) t i ≡ lookup names t 0 → length names ≤ i → None ≡ lookup names t 0
-nowhere_found names t i inv all = sym (sym inv ∙ at_drop_all (λ l. lookup l t i) names i all)
+-- a line of a list of lines
+module _ {X : Type 0} (f : X → List ℕ) (xs : List X) (d : X) where
+  -- .. that has others behind it
+  pub front_line : (more : List (List ℕ)) (i : ℕ) (x : X) → i < length xs → x ≡ get_or xs i d → f x ≡ get_or (map f xs ++ more) i []
+  front_line more i x h is =
+      ap f is ∙ sym (get_or-map f xs i d [] h) ∙ sym (get_or_append_left (map f xs) more [] i (omega (arith, length-map xs f)))
 
--- there is room for one more
-pub room_for_name : (s : Sheet) → length s.names ≡ 128 → length (view s).names < 128 → s.name_count < 128
-room_for_name s wide h = omega (arith, count_is s wide)
+  -- .. that has one before it
+  pub next_line : (first : List ℕ) (i : ℕ) (x : X) → (i ≡ 0 → ⊥) → i - 1 < length xs → x ≡ get_or xs (i - 1) d → f x ≡ get_or (first ∷ map f xs) i []
+  next_line first i x some h is =
+      let next : i ≡ suc (i - 1) = omega arith in
+      ap f is ∙ sym (ap (λ k. get_or (first ∷ map f xs) k []) next ∙ get_or-map f xs (i - 1) d [] h)
+
+-- an item of a list, seen through w
+module _ {X Y : Type 0} (w : X → Y) (xs items : List X) (same : items ≡ xs) (i : ℕ) (x : X) (inside : i < length items) (is : x ≡ get_or items i x) where
+  pub seen_inside : i < length (map w xs)
+  seen_inside = omega (arith, inside, ap length same, length-map xs w)
+
+  pub seen_item : w x ≡ get_or (map w xs) i (w x)
+  seen_item = ap w (is ∙ ap (λ l. get_or l i x) same) ∙ sym (get_or-map w xs i x (w x) (omega (arith, inside, ap length same)))

@@ -7,9 +7,9 @@ pub mod Format
 pub mod Written
 pub mod Keys
 pub mod Ends
-pub mod Part
+pub mod Parts
+pub mod Texts
 pub mod View
 pub mod Lines
 pub mod Lookup
-pub mod Rests
 pub mod Sections

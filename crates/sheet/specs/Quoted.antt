@@ -19,6 +19,13 @@ body (suc n) bytes =
     (cond (slice_index bytes 1 == 34) (after (34 ∷ []) (body n (drop 2 bytes))) (Some []))
     (cond (printable (slice_index bytes 0)) (after (slice_index bytes 0 ∷ []) (body n (drop 1 bytes))) None)
 
+-- what stands behind the byte of text that the bytes begin with; none where the text ends
+abbrev pub behind_letter : List ℕ → Option (List ℕ)
+behind_letter bytes =
+    cond (slice_index bytes 0 == 34)
+    (cond (slice_index bytes 1 == 34) (Some (drop 2 bytes)) None)
+    (cond (printable (slice_index bytes 0)) (Some (drop 1 bytes)) None)
+
 abbrev pub nonempty : Option (List ℕ) → Option (List ℕ)
 nonempty (Some []) = None
 nonempty (Some (c ∷ cs)) = Some (c ∷ cs)
@@ -40,3 +47,7 @@ sized text = cond (good text) (Ok (length (quoted text))) (refused BadText 1)
 -- what writing a text into the front of a buffer answers: the text is judged first, then the room
 abbrev pub written : List ℕ → List ℕ → Result ℕ Refusal
 written tail text = room (length tail) (sized text)
+
+-- the quoted form of a text; what is no text has none
+abbrev pub quoted_form : List ℕ → Option (List ℕ)
+quoted_form text = cond (good text) (Some (quoted text)) None

@@ -1,5 +1,5 @@
 -- Texts, and their quoted form.
-use Rattle.std.specs.Prelude.{ℕ, Bool, true, cond, ◌&&◌, List, [], ◌∷◌, ◌++◌, length, ◌==◌, nat_le}
+use Rattle.std.specs.Prelude.{ℕ, Bool, true, false, cond, ◌&&◌, List, [], ◌∷◌, ◌++◌, length, ◌==◌, nat_le}
 use Rattle.std.specs.List.{flat_map}
 
 -- a byte that may stand in a text: 32 to 126
@@ -24,3 +24,9 @@ inner text = flat_map letter text
 
 abbrev pub quoted : List ℕ → List ℕ
 quoted text = 34 ∷ (inner text ++ 34 ∷ [])
+
+-- the text that is written: the second of two quotes is left out
+abbrev pub single : Bool → List ℕ → List ℕ
+single skip [] = []
+single true (c ∷ cs) = single false cs
+single false (c ∷ cs) = c ∷ single (c == 34) cs

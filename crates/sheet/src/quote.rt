@@ -1,11 +1,12 @@
 // Quoted names: read at a place of the bytes, and written at the front of a buffer's tail.
-ghost use Rattle.base.specs.declared.refusal.Cause.TheVariants.{BadText};
 ghost use Rattle.lines.specs.Overlay.{overlaid, piece};
-ghost use Rattle.sheet.specs.Quoted.{extent, sized, unquoted, written};
+ghost use Rattle.sheet.specs.Quoted.{behind_letter, extent, quoted_form, unquoted, written};
 ghost use Rattle.sheet.specs.RoundTrips.{ReadsBack, ReadsExactly, Rewrites};
-ghost use Rattle.sheet.specs.Text.{printable, quoted};
-ghost use Rattle.std.specs.Prelude.{◌≡◌, ℕ, ◌<◌, length, drop, slice_index};
+ghost use Rattle.sheet.specs.Text.{good, inner, printable, quoted};
+ghost use Rattle.std.specs.Option.{option_map};
+ghost use Rattle.std.specs.Prelude.{◌≡◌, ◌+◌, ◌≤◌, IfSome, length, drop};
 
+use arrayvec::ArrayVec;
 use base::{Cause, Refusal};
 
 pub(crate) const QUOTE: u8 = b'"';
@@ -19,32 +20,33 @@ const FIRST_PRINTABLE: u8 = b' ';
 
 const LAST_PRINTABLE: u8 = b'~';
 
-// A text that stands alone has no line: its place is 1.
-fn bad_text() -> Refusal
-    ensures { result ≡ record { cause = BadText; place = 1 } }
-{
-    Refusal {
-        cause: Cause::BadText,
-        place: 1,
-    }
-}
+// A text that stands alone has no line: its place is 1. Written out, since a constant cannot call
+// a function.
+const BAD_TEXT: Refusal = Refusal {
+    cause: Cause::BadText,
+    place: 1,
+};
+
+// 32 quotes take two bytes each, between the outer ones.
+const LONGEST_QUOTED: usize = 66;
+
+pub(crate) type QuotedForm = ArrayVec<u8, LONGEST_QUOTED>;
 
 fn is_printable(b: u8) -> bool
     ensures { result ≡ printable b }
 {
-    FIRST_PRINTABLE <= b && b <= LAST_PRINTABLE
+    (FIRST_PRINTABLE..=LAST_PRINTABLE).contains(&b)
 }
 
-// The byte at a place, 0 past the end.
-pub(crate) fn byte_at(bytes: &[u8], at: usize) -> u8
-    ensures value { result ≡ slice_index bytes.now at }
-    ensures inside { 0 < result → at < length bytes.now }
+fn is_text(bytes: &[u8]) -> bool
+    ensures { result ≡ good bytes.now }
 {
-    if at < bytes.len() { bytes[at] } else { 0 }
+    !bytes.is_empty() && bytes.len() <= LONGEST && bytes.iter().all(|b| is_printable(*b))
 }
 
-// Reads a quoted name at a place: begin and end of the text inside its outer quotes, and the place
-// behind them. The text keeps its quotes doubled there.
+// Reads a quoted name at a place, which a caller may have anywhere in its bytes: begin and end of
+// the text inside its outer quotes, and the place behind them. The text keeps its quotes doubled
+// there. Places and no parts are answered, as callers go on in their own bytes.
 pub fn read_quoted(bytes: &[u8], at: usize) -> Result<(usize, usize, usize), Refusal>
     ensures value { result ≡ extent at (unquoted (drop at bytes.now)) }
     ensures exactly { ReadsExactly (drop at bytes.now) }
@@ -53,52 +55,68 @@ pub fn read_quoted(bytes: &[u8], at: usize) -> Result<(usize, usize, usize), Ref
     scan_quoted(bytes, at)
 }
 
-// A text has at most 32 bytes, so its closing quote is met within 33 turns.
+#[tactic(auto, using(crate::proofs::Reading::past_end))]
 fn scan_quoted(bytes: &[u8], at: usize) -> Result<(usize, usize, usize), Refusal>
     ensures { result ≡ extent at (unquoted (drop at bytes.now)) }
 {
-    if byte_at(bytes, at) != QUOTE {
-        return Err(bad_text());
-    }
+    let front = bytes.get(at..).ok_or(BAD_TEXT)?;
+    let size = written_size(front).ok_or(BAD_TEXT)?;
     let begin = at + 1;
-    let mut end = begin;
-    for _n in 0..=LONGEST {
-        let b = byte_at(bytes, end);
-        if b != QUOTE {
-            if !is_printable(b) {
-                return Err(bad_text());
-            }
-            end += 1;
-        } else if byte_at(bytes, end + 1) == QUOTE {
-            end += 2;
-        } else if end == begin {
-            return Err(bad_text());
-        } else {
-            return Ok((begin, end, end + 1));
-        }
-    }
-    Err(bad_text())
+    let end = begin + size;
+    Ok((begin, end, end + 1))
 }
 
-// How many bytes a text takes when quoted.
-fn quoted_size(text: &[u8]) -> Result<usize, Refusal>
-    ensures { result ≡ sized text.now }
+// What stands behind the byte of text that the bytes begin with; none where the text ends.
+fn behind_letter(bytes: &[u8]) -> Option<&[u8]>
+    ensures { option_map (λ x. x.now) result ≡ behind_letter bytes.now }
 {
-    if text.len() == 0 || text.len() > LONGEST {
-        return Err(bad_text());
+    match bytes {
+        [QUOTE, ESCAPE, behind @ ..] => Some(behind),
+        [QUOTE, ..] => None,
+        [b, behind @ ..] if is_printable(*b) => Some(behind),
+        _ => None,
     }
-    let mut size = 2;
-    for i in 0..text.len() {
-        let c = text[i];
-        if !is_printable(c) {
-            return Err(bad_text());
-        }
-        size += 1;
-        if c == QUOTE {
-            size += 1;
+}
+
+// How many bytes the text takes between the outer quotes of the quoted name that the bytes begin
+// with. A text has at most 32 bytes, so its closing quote is met within 33 turns.
+fn written_size(bytes: &[u8]) -> Option<usize>
+    ensures value { result ≡ option_map (λ t. length (inner t)) (unquoted bytes.now) }
+    ensures inside { IfSome result (λ size. size + 2 ≤ length bytes.now) }
+{
+    let [QUOTE, body @ ..] = bytes else {
+        return None;
+    };
+    let mut rest = body;
+    for _n in 0..=LONGEST {
+        let Some(behind) = behind_letter(rest) else {
+            if rest.len() == body.len() || !rest.starts_with(&[QUOTE]) {
+                return None;
+            }
+            return Some(body.len() - rest.len());
+        };
+        rest = behind;
+    }
+    None
+}
+
+// The quoted form of a text; none where it is no text.
+pub(crate) fn quote(text: &[u8]) -> Option<QuotedForm>
+    ensures { option_map (λ q. q.items) result ≡ quoted_form text.now }
+{
+    if !is_text(text) {
+        return None;
+    }
+    let mut form = ArrayVec::new();
+    form.push(QUOTE);
+    for byte in text {
+        form.push(*byte);
+        if *byte == QUOTE {
+            form.push(ESCAPE);
         }
     }
-    Ok(size)
+    form.push(QUOTE);
+    Some(form)
 }
 
 // Writes a text, quoted, into the front of the tail, and answers how many bytes it took.
@@ -115,24 +133,11 @@ fn put_quoted(tail: &mut [u8], text: &[u8]) -> Result<usize, Refusal>
     ensures value { result ≡ written tail.old text.now }
     ensures change { tail.new ≡ overlaid (piece result (quoted text.now)) tail.old }
 {
-    let size = quoted_size(text)?;
+    let form = quote(text).ok_or(BAD_TEXT)?;
+    let size = form.len();
     if size > tail.len() {
-        return Err(Refusal {
-            cause: Cause::BufferShort,
-            place: 0,
-        });
+        return Err(Cause::BufferShort.at(0));
     }
-    tail[0] = QUOTE;
-    let mut next = 1;
-    for i in 0..text.len() {
-        let c = text[i];
-        tail[next] = c;
-        next += 1;
-        if c == QUOTE {
-            tail[next] = ESCAPE;
-            next += 1;
-        }
-    }
-    tail[next] = QUOTE;
+    tail[..size].copy_from_slice(form.as_slice());
     Ok(size)
 }

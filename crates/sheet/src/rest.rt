@@ -1,28 +1,27 @@
 // What stands behind the key of a line.
+ghost use Rattle.base.specs.Outcomes.{read_as};
 ghost use Rattle.sheet.specs.Format.{count, text};
-ghost use Rattle.sheet.specs.Rests.{Locates};
-ghost use Rattle.std.specs.Prelude.{◌≡◌, drop};
+ghost use Rattle.sheet.specs.Parts.{IsPart};
+ghost use Rattle.sheet.specs.Texts.{text_of};
+ghost use Rattle.std.specs.Prelude.{◌≡◌, IfOk};
 
-use crate::extent::Extent;
 use crate::number::read_natural;
 use crate::quote::read_quoted;
+use crate::text::Text;
 use base::Cause;
 
-const LARGEST_COUNT: u64 = 128;
+const LARGEST_COUNT: u8 = 128;
 
-// A quoted name that is the whole rest of its line. The bytes end where the line does.
-pub(crate) fn read_text(bytes: &[u8], at: usize) -> Result<Extent, Cause>
-    ensures { Locates bytes.now (text (drop at bytes.now)) result }
+// A quoted name that is the whole rest of its line.
+pub(crate) fn read_text(rest: &[u8]) -> Result<Text<'_>, Cause>
+    ensures value { read_as text_of result ≡ text rest.now }
+    ensures part { IfOk result (λ t. IsPart rest.now t.written.now) }
 {
-    match read_quoted(bytes, at) {
-        Ok((begin, end, behind)) => {
-            if behind == bytes.len() {
-                Ok(Extent { begin, end })
-            } else {
-                Err(Cause::BadText)
-            }
-        }
-        Err(_) => Err(Cause::BadText),
+    match read_quoted(rest, 0) {
+        Ok((begin, end, behind)) if behind == rest.len() => Ok(Text {
+            written: &rest[begin..end],
+        }),
+        _ => Err(Cause::BadText),
     }
 }
 
@@ -30,12 +29,8 @@ pub(crate) fn read_text(bytes: &[u8], at: usize) -> Result<Extent, Cause>
 pub(crate) fn read_count(rest: &[u8]) -> Result<u8, Cause>
     ensures { result ≡ count rest.now }
 {
-    match read_natural(rest) {
-        Some(n) => if n <= LARGEST_COUNT {
-            Ok(n as u8)
-        } else {
-            Err(Cause::BadNumber)
-        },
-        None => Err(Cause::BadNumber),
-    }
+    read_natural(rest)
+        .and_then(|n| u8::try_from(n).ok())
+        .filter(|n| *n <= LARGEST_COUNT)
+        .ok_or(Cause::BadNumber)
 }

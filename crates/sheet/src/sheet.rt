@@ -1,22 +1,19 @@
-// A sheet that was read: it borrows the bytes and keeps where its texts stand in them.
-use crate::extent::Extent;
+// A sheet that was read: it keeps its texts where they stand in the bytes.
+use crate::text::Text;
+use arrayvec::ArrayVec;
 
-mod fill;
-mod line;
 mod query;
 mod read;
+mod take;
 mod write;
 
-// At most 128 names, and as many asks.
-pub(crate) const MOST: usize = 128;
+// At most 128 names, and as many asks: bounded lists, since no call here asks for memory.
+const MOST: usize = 128;
 
 #[derive(Drop)]
 pub struct Sheet<'a> {
-    bytes: &'a [u8],
-    // empty until its line is read
-    style: Extent,
-    names: [Extent; 128],
-    name_count: usize,
-    asks: [i32; 128],
-    ask_count: usize,
+    // Empty until its line is read. No `Option`: a caller never sees a sheet without its style.
+    style: Text<'a>,
+    names: ArrayVec<Text<'a>, MOST>,
+    asks: ArrayVec<i32, MOST>,
 }

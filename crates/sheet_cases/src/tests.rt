@@ -6,6 +6,7 @@ use std::test::Fail;
 const SHIRT: &[u8] =
     b"style=\"Shirt 7\"\nnames=2\nname=\"Sleeve \"\"B\"\"\"\nname=\"Yoke\"\nasks=2\nask=\"YOKE\"\nask=-1\n";
 
+// Written out, since a constant cannot call a function.
 const BAD_TEXT: Refusal = Refusal {
     cause: Cause::BadText,
     place: 1,

@@ -1,27 +1,24 @@
 // What a sheet answers.
 ghost use Rattle.sheet.specs.Format.{lookup};
 ghost use Rattle.sheet.specs.Lookup.{number_of, numbered};
-ghost use Rattle.sheet.specs.Part.{single};
+ghost use Rattle.sheet.specs.Same.{same_text};
+ghost use Rattle.sheet.specs.Texts.{text_of};
 ghost use Rattle.sheet.specs.View.{view, written_names, written_style};
 ghost use Rattle.std.specs.Option.{option_map};
 ghost use Rattle.std.specs.List.{slice_get};
-ghost use Rattle.std.specs.Prelude.{◌≡◌, ◌≤◌, false, length};
+ghost use Rattle.std.specs.Prelude.{◌≡◌, ◌<◌, ◌≤◌, IfSome, length, position};
 
-use super::{MOST, Sheet};
-use crate::extent::part_of;
-use crate::quote::write_quoted;
-use crate::same::same_written;
+use super::Sheet;
+use crate::quote::quote;
+use crate::text::Text;
 use base::NameId;
-
-// 32 quotes take two bytes each, between the outer ones.
-const LONGEST_QUOTED: usize = 66;
 
 impl<'a> Sheet<'a> {
     // The style as it is written inside its outer quotes.
     pub fn style(&self) -> &'a [u8]
         ensures { result.now ≡ written_style self.now }
     {
-        part_of(self.bytes, self.style)
+        self.style.written
     }
 
     // How many names there are.
@@ -29,49 +26,49 @@ impl<'a> Sheet<'a> {
         ensures value { result ≡ length (view self.now).names }
         ensures few { result ≤ 128 }
     {
-        self.name_count.min(MOST)
+        self.names.len()
     }
 
     // A name as it is written inside its outer quotes; none past the last.
     pub fn name(&self, n: NameId) -> Option<&'a [u8]>
         ensures { option_map (λ x. x.now) result ≡ slice_get (written_names self.now) n.0 }
     {
-        let i = usize::from(n.0);
-        if i < self.name_count() {
-            Some(part_of(self.bytes, self.names[i]))
-        } else {
-            None
-        }
+        let name = self.names.get(usize::from(n.0))?;
+        Some(name.written)
     }
 
     // The asks, each resolved to its number.
     pub fn asks(&self) -> &[i32]
         ensures { result.now ≡ (view self.now).asks }
     {
-        let count = self.ask_count.min(MOST);
-        &self.asks[0..count]
+        self.asks.as_slice()
     }
 
     // The number of the name that is the same text; the text is given plain, its quotes single.
     pub fn lookup(&self, text: &[u8]) -> Option<NameId>
         ensures { result ≡ numbered (number_of (view self.now).names text.now) }
     {
-        let mut quoted = [0; LONGEST_QUOTED];
-        match write_quoted(&mut quoted, text) {
-            Ok(size) => self.find(&quoted[1..size - 1]),
-            Err(_) => None,
-        }
+        let form = quote(text)?;
+        let [_, written @ .., _] = form.as_slice() else {
+            return None;
+        };
+        self.find(&Text { written })
     }
 
-    // The number of the name that is the same as a text in its written form.
-    pub(crate) fn find(&self, written: &[u8]) -> Option<NameId>
-        ensures { result ≡ numbered (lookup (view self.now).names (single false written.now) 0) }
+    // Where the first name stands that is the same text.
+    fn place_of(&self, text: &Text<'_>) -> Option<usize>
+        ensures value { result ≡ position (λ n. same_text (text_of n) (text_of text.now)) self.now.names.items }
+        ensures inside { IfSome result (λ i. i < 128) }
     {
-        for i in 0..self.name_count() {
-            if same_written(part_of(self.bytes, self.names[i]), written) {
-                return Some(NameId(i as u8));
-            }
-        }
-        None
+        self.names.iter().position(|name| name.is_same(text))
+    }
+
+    // The number of the name that is the same text.
+    pub(crate) fn find(&self, text: &Text<'_>) -> Option<NameId>
+        ensures { result ≡ numbered (lookup (view self.now).names (text_of text.now) 0) }
+    {
+        let i = self.place_of(text)?;
+        // A checked conversion would add an error that cannot come.
+        Some(NameId(i as u8))
     }
 }

@@ -1,13 +1,15 @@
 // Reading a sheet, line by line.
-ghost use Rattle.sheet.specs.Format.{sheet_of};
+ghost use Rattle.sheet.specs.Format.{sheet_of, titled};
 ghost use Rattle.sheet.specs.Lines.{SaysAgain};
-ghost use Rattle.sheet.specs.View.{WellWritten, contents, source};
+ghost use Rattle.sheet.specs.View.{StandsIn, WellWritten, contents, view, written_names, written_style};
 ghost use Rattle.sheet.specs.Written.{AcceptsExactly};
-ghost use Rattle.std.specs.Prelude.{◌≡◌, IfOk};
+ghost use Rattle.std.specs.Prelude.{◌≡◌, [], IfOk};
 
 use super::Sheet;
-use crate::line::read_head;
+use crate::line::Line;
 use crate::section::Section;
+use crate::text::Text;
+use arrayvec::ArrayVec;
 use base::{Cause, Refusal};
 
 impl<'a> Sheet<'a> {
@@ -15,42 +17,46 @@ impl<'a> Sheet<'a> {
     pub fn read(bytes: &'a [u8]) -> Result<Sheet<'a>, Refusal>
         ensures value { contents result ≡ sheet_of bytes.now }
         ensures exactly { AcceptsExactly bytes.now }
-        ensures from { IfOk result (λ s. source s ≡ bytes.now) }
+        ensures from { IfOk result (StandsIn bytes.now) }
         ensures well { IfOk result WellWritten }
         ensures again { IfOk result SaysAgain }
     {
         Sheet::read_lines(bytes)
     }
 
+    // Nothing is read yet.
+    fn empty() -> Sheet<'a>
+        ensures says { view result ≡ titled [] }
+        ensures style { written_style result ≡ [] }
+        ensures names { written_names result ≡ [] }
+    {
+        Sheet {
+            style: Text::default(),
+            names: ArrayVec::new(),
+            asks: ArrayVec::new(),
+        }
+    }
+
     // Each line is judged as it is read, so the first that breaks a rule is the one refused.
     fn read_lines(bytes: &'a [u8]) -> Result<Sheet<'a>, Refusal>
         ensures value { contents result ≡ sheet_of bytes.now }
-        ensures from { IfOk result (λ s. source s ≡ bytes.now) }
-        ensures well { IfOk result WellWritten }
+        ensures from { IfOk result (StandsIn bytes.now) }
     {
-        let mut sheet = Sheet::empty(bytes);
+        let mut sheet = Sheet::empty();
         let mut section = Section::Style;
-        let mut place = 0;
-        let mut line = 1;
+        let mut left = bytes;
+        // The lines are counted by hand: the loop ends by its section, and not with the lines.
+        let mut number = 1;
         while !section.is_last() {
-            let Some((key, at, end)) = read_head(bytes, place) else {
-                return Err(Refusal {
-                    cause: Cause::SheetLine,
-                    place: line,
-                });
-            };
-            match sheet.take_line(section, key, at, end) {
-                Ok(next) => section = next,
-                Err(cause) => return Err(Refusal { cause, place: line }),
-            }
-            place = end + 1;
-            line += 1;
+            let line = Line::first(left).ok_or(Cause::SheetLine.at(number))?;
+            section = sheet
+                .take_line(section, &line)
+                .map_err(|cause| cause.at(number))?;
+            left = line.behind;
+            number += 1;
         }
-        if place < bytes.len() {
-            return Err(Refusal {
-                cause: Cause::SheetLine,
-                place: line,
-            });
+        if !left.is_empty() {
+            return Err(Cause::SheetLine.at(number));
         }
         Ok(sheet)
     }

@@ -1,9 +1,7 @@
-use Rattle.std.proofs.Common.{refl}
-use Rattle.lines.proofs.Laying.{copied}
+use Rattle.std.proofs.Common.{arith, length-append}
+use Rattle.std.proofs.lemmas.Grind.{common_steps}
+use Rattle.std.proofs.lemmas.List.{drop-drop, length-take-le}
 use Rattle.lines.proofs.line.put.Goals as goal
 
-pub returns : goal.returns
-returns c = record {
-  value = refl;
-  change = copied c.args.at c.args.tail.now c.args.bytes.now c.copy_from_slice.new.self c.copy_from_slice.ensures.after c.requires;
-}
+pub returns-clause-change : goal.returns-clause-change
+returns-clause-change c = grind (arith, common_steps, drop-drop, length-append, length-take-le)

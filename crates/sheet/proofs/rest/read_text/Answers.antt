@@ -1,15 +1,11 @@
-use Rattle.sheet.proofs.Locating.{inside, stands, whole_rest, more_behind, no_text}
+use Rattle.sheet.proofs.Locating.{doubled, whole_rest, stands}
 use Rattle.sheet.proofs.rest.read_text.Goals as goal
 
-pub returns-then-behind-bytes : goal.returns-then-behind-bytes
-returns-then-behind-bytes c = (
-  whole_rest c.args.bytes.now c.args.at c.in-Ok.begin c.in-Ok.end c.in-Ok.behind c.in-Ok.ensures.value c.if-behind-bytes.true,
-  inside c.args.bytes.now c.args.at c.in-Ok.begin c.in-Ok.end c.in-Ok.behind c.in-Ok.ensures.value,
-  stands c.args.bytes.now c.args.at c.in-Ok.begin c.in-Ok.end c.in-Ok.behind c.in-Ok.ensures.value,
-)
+pub invariant_of-result : goal.invariant_of-result
+invariant_of-result c = record { is_doubled = doubled c.args.rest.now c.in-Ok.begin c.in-Ok.end c.in-Ok.behind c.in-Ok.ensures.value }
 
-pub returns-else-behind-bytes : goal.returns-else-behind-bytes
-returns-else-behind-bytes c = more_behind c.args.bytes.now c.args.at c.in-Ok.begin c.in-Ok.end c.in-Ok.behind c.in-Ok.ensures.value c.if-behind-bytes.false
+pub returns-in-Ok-clause-value : goal.returns-in-Ok-clause-value
+returns-in-Ok-clause-value c = whole_rest c.args.rest.now c.in-Ok.begin c.in-Ok.end c.in-Ok.behind c.in-Ok.ensures.value c.if-behind-rest.true
 
-pub returns-in-Err : goal.returns-in-Err
-returns-in-Err c = no_text c.args.bytes.now c.args.at c.in-Err.field-0 c.in-Err.ensures.value
+pub returns-in-Ok-clause-part : goal.returns-in-Ok-clause-part
+returns-in-Ok-clause-part c = stands c.args.rest.now c.in-Ok.begin c.in-Ok.end c.in-Ok.behind c.in-Ok.ensures.value

@@ -1,12 +1,12 @@
-use Rattle.sheet.proofs.Again.{read_again}
+use Rattle.sheet.proofs.Again.{read_again, written_well}
 use Rattle.sheet.proofs.Formatting.{accepts_exactly}
 use Rattle.sheet.proofs.sheet.Sheet.read.Goals as goal
 
-pub returns : goal.returns
-returns c = record {
-  value = c.read_lines.ensures.value;
-  exactly = accepts_exactly c.args.bytes.now;
-  from = c.read_lines.ensures.from;
-  well = c.read_lines.ensures.well;
-  again = read_again c.args.bytes.now c.read_lines.result c.read_lines.ensures.value c.read_lines.ensures.well;
-}
+pub returns-clause-exactly : goal.returns-clause-exactly
+returns-clause-exactly c = accepts_exactly c.args.bytes.now
+
+pub returns-clause-well : goal.returns-clause-well
+returns-clause-well c = written_well c.read_lines.result
+
+pub returns-clause-again : goal.returns-clause-again
+returns-clause-again c = read_again c.args.bytes.now c.read_lines.result c.read_lines.ensures.value

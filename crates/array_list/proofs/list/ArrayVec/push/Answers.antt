@@ -1,9 +1,0 @@
-use Rattle.std.proofs.Common.{rules}
-use Rattle.array_list.proofs.Slots.{push_taken, push_left}
-use Rattle.array_list.proofs.list.ArrayVec.push.Goals as goal
-
-pub returns-then-self-slots : goal.returns-then-self-slots
-returns-then-self-slots g c = push_taken c.args.self.now.slots g.row.N _ _ (search rules) (search rules)
-
-pub returns-else-self-slots : goal.returns-else-self-slots
-returns-else-self-slots g c = push_left c.args.self.now.slots g.row.N _ _ (search rules) (search rules)
