@@ -9,13 +9,14 @@ use Rattle.image.specs.declared.records.TableRecord.{TableRecord}
 use Rattle.image.specs.declared.types.TypeCode.{TypeCode}
 use Rattle.image.specs.Layout as layout
 use Rattle.image.specs.Opcodes.{decoded}
-use Rattle.arrayvec.specs.ArrayVec.{ArrayVec}
+use Rattle.array_list.specs.Items.{items}
+use Rattle.array_list.specs.declared.list.ArrayVec.{ArrayVec}
 
 abbrev pub seen_method : Method → layout.Method
-seen_method m = record { label = m.label; codes = m.codes.items }
+seen_method m = record { label = m.label; codes = items m.codes }
 
-abbrev pub seen_type : ArrayVec Method → List layout.Method
-seen_type t = map seen_method t.items
+abbrev pub seen_type : ArrayVec Method 16 → List layout.Method
+seen_type t = map seen_method (items t)
 
 -- what a block declares, without its code
 pub record Head : Type 0 where
@@ -27,19 +28,19 @@ abbrev pub head : layout.Block → Head
 head b = record { params = b.params; free = b.free; start = b.start }
 
 abbrev pub seen_block : BlockRecord → Head
-seen_block b = record { params = b.params.items; free = b.free.items; start = b.start }
+seen_block b = record { params = items b.params; free = items b.free; start = b.start }
 
 abbrev pub seen_table : TableRecord → layout.Table
-seen_table t = record { start = t.start; pairs = t.pairs.items }
+seen_table t = record { start = t.start; pairs = items t.pairs }
 
-abbrev pub seen_types : ArrayVec (ArrayVec Method) → List (List layout.Method)
-seen_types ts = map seen_type ts.items
+abbrev pub seen_types : ArrayVec (ArrayVec Method 16) 64 → List (List layout.Method)
+seen_types ts = map seen_type (items ts)
 
-abbrev pub seen_blocks : ArrayVec BlockRecord → List Head
-seen_blocks bs = map seen_block bs.items
+abbrev pub seen_blocks : ArrayVec BlockRecord 128 → List Head
+seen_blocks bs = map seen_block (items bs)
 
-abbrev pub seen_tables : ArrayVec TableRecord → List layout.Table
-seen_tables ts = map seen_table ts.items
+abbrev pub seen_tables : ArrayVec TableRecord 128 → List layout.Table
+seen_tables ts = map seen_table (items ts)
 
 -- what an image declares: all of its structure but the code
 pub record Outline : Type 0 where

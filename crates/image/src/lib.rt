@@ -1,4 +1,4 @@
-// Images of programs: the layout reader and the instruction decoder. It rests on base and arrayvec.
+// Images of programs: the layout reader and the instruction decoder. It rests on base and array_list.
 // It promises that an image is read exactly when its words are the encoding of some structure
 // within the format's bounds, that a refusal is the first broken rule at its word, and that an
 // instruction is decoded exactly where its encoding stands.

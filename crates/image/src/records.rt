@@ -1,7 +1,7 @@
 // The records of an image as they are kept in memory.
 use crate::limits::*;
 use crate::types::TypeCode;
-use arrayvec::ArrayVec;
+use array_list::ArrayVec;
 use base::{BlockId, Label};
 
 // How many a list may hold. Lists are of a fixed size, since libraries ask for no memory.
@@ -19,7 +19,7 @@ const TABLES: usize = MAX_TABLES as usize;
 pub type TypeCodes = ArrayVec<TypeCode, VALUES>;
 
 // A method of a channel type.
-#[derive(Clone, Default, Drop)]
+#[derive(Clone, Copy, Default)]
 pub struct Method {
     pub label: Label,
     pub codes: TypeCodes,
@@ -30,7 +30,7 @@ pub type TypeRecord = ArrayVec<Method, METHODS>;
 
 // What a block declares, and the word where its code begins: users name a place of an image by its
 // word.
-#[derive(Clone, Default, Drop)]
+#[derive(Clone, Copy, Default)]
 pub struct BlockRecord {
     pub params: TypeCodes,
     pub free: TypeCodes,
@@ -48,7 +48,7 @@ pub struct Pair {
 pub type Pairs = ArrayVec<Pair, METHODS>;
 
 // A method table, and the word where its first pair begins.
-#[derive(Clone, Default, Drop)]
+#[derive(Clone, Copy, Default)]
 pub struct TableRecord {
     pub start: usize,
     pub pairs: Pairs,

@@ -12,7 +12,10 @@ const QUOTE: &[u8] = b"\"";
 // Ends a line.
 const NEWLINE: &[u8] = b"\n";
 
+// The functions here are inlined, so that a key known at the call is copied without a loop.
+
 // Puts the bytes behind the first `at` of the tail, and answers where they end.
+#[inline(always)]
 fn put(tail: &mut [u8], at: usize, bytes: &[u8]) -> usize
     requires { at + length bytes.now ≤ length tail.old }
     ensures value { result ≡ at + length bytes.now }
@@ -25,6 +28,7 @@ fn put(tail: &mut [u8], at: usize, bytes: &[u8]) -> usize
 
 // How many bytes the parts have together, which may pass usize. The casts widen; the library has no
 // `From<usize>` for u128.
+#[inline(always)]
 fn size_of(parts: &[&[u8]]) -> u128
     ensures { result ≡ length (joined parts.now) }
 {
@@ -32,6 +36,7 @@ fn size_of(parts: &[&[u8]]) -> u128
 }
 
 // Writes the parts, one behind the other.
+#[inline(always)]
 fn write_parts(tail: &mut [u8], parts: &[&[u8]]) -> Result<usize, Refusal>
     ensures { Writes tail.old tail.new (joined parts.now) result }
 {
@@ -47,6 +52,7 @@ fn write_parts(tail: &mut [u8], parts: &[&[u8]]) -> Result<usize, Refusal>
 }
 
 // Writes a line that says a written text, between quotes.
+#[inline(always)]
 pub fn write_text_line(tail: &mut [u8], key: &[u8], written: &[u8]) -> Result<usize, Refusal>
     ensures { Writes tail.old tail.new (text_line key.now written.now) result }
 {
@@ -54,6 +60,7 @@ pub fn write_text_line(tail: &mut [u8], key: &[u8], written: &[u8]) -> Result<us
 }
 
 // Writes a line that says a number in decimal.
+#[inline(always)]
 pub fn write_number_line<I: Integer>(tail: &mut [u8], key: &[u8], n: I) -> Result<usize, Refusal>
     ensures { Writes tail.old tail.new (line key.now (I.text n)) result }
 {

@@ -7,6 +7,7 @@ use Rattle.std.proofs.ByRecursion.{All-get_or, All-from_get_or, All-map, All-wea
 use Rattle.std.proofs.lemmas.List.{length-map, map-id}
 use Rattle.std.proofs.lemmas.Grind.{flat_map-append}
 use Rattle.lines.specs.Lines.{text_line, count_line, number_line}
+use Rattle.array_list.specs.Items.{items}
 use Rattle.sheet.specs.declared.sheet.Sheet.{Sheet}
 use Rattle.sheet.specs.declared.text.Text.{Text}
 use Rattle.sheet.specs.Texts.{text_of}
@@ -90,7 +91,7 @@ doubled [] = refl
 doubled (t ∷ ts) = λ i. t.is_doubled i ∷ doubled ts i
 
 well_written : (s : Sheet) → WellWritten s
-well_written s = record { style = s.style.is_doubled; names = doubled s.names.items }
+well_written s = record { style = s.style.is_doubled; names = doubled (items s.names) }
 
 pub written_well : (r : Result Sheet Refusal) → IfOk r WellWritten
 written_well (Ok s) = well_written s

@@ -83,8 +83,11 @@ body_complete (suc n) (c ∷ cs) rest few clean stops =
           ∙ ap (after (c ∷ [])) more
     ]
 
-good_is : (text : List ℕ) → 1 ≤ length text → length text ≤ 32 → all_printable text ≡ true → good text ≡ true
+pub good_is : (text : List ℕ) → 1 ≤ length text → length text ≤ 32 → all_printable text ≡ true → good text ≡ true
 good_is text some few clean = and_from (leb 1 (length text) && leb (length text) 32) _ (and_from (leb 1 (length text)) _ (le-leb 1 (length text) some) (le-leb (length text) 32 few)) clean
+
+pub good_few : (text : List ℕ) → good text ≡ true → length text ≤ 32
+good_few text is = leb-true (length text) 32 (and_parts (leb 1 (length text)) (leb (length text) 32) (and_parts (leb 1 (length text) && leb (length text) 32) (all_printable text) is).0).1
 
 nonempty_some : (r : Option (List ℕ)) {text : List ℕ} → nonempty r ≡ Some text → (r ≡ Some text) × (1 ≤ length text)
 nonempty_some (Some []) e = absurd (some_none e)
@@ -129,7 +132,7 @@ accepted bytes text = (sound bytes, complete)
         let few = leb-true (length text) 32 range.1 in
         within 33 bytes text h.1.rest (h.1.is ∙ shape text h.1.rest) (omega arith) (leb-true 1 (length text) range.0) parts.1 h.1.stops
 
-sized_is : (text : List ℕ) → good text ≡ true → sized text ≡ Ok (length (quoted text))
+pub sized_is : (text : List ℕ) → good text ≡ true → sized text ≡ Ok (length (quoted text))
 sized_is text h = cond-true _ _ _ h
 
 extent_some : (at : ℕ) (r : Option (List ℕ)) {b e p : ℕ} → extent at r ≡ Ok (b, e, p) → (text : List ℕ) × (r ≡ Some text) × (at + 1 + letters text + 1 ≡ p)

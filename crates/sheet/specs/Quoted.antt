@@ -47,7 +47,3 @@ sized text = cond (good text) (Ok (length (quoted text))) (refused BadText 1)
 -- what writing a text into the front of a buffer answers: the text is judged first, then the room
 abbrev pub written : List ℕ → List ℕ → Result ℕ Refusal
 written tail text = room (length tail) (sized text)
-
--- the quoted form of a text; what is no text has none
-abbrev pub quoted_form : List ℕ → Option (List ℕ)
-quoted_form text = cond (good text) (Some (quoted text)) None

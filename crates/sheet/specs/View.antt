@@ -1,5 +1,6 @@
 -- What a sheet that was read says.
 use Rattle.std.specs.Prelude.{◌≡◌, ℕ, List, map, All, Result}
+use Rattle.array_list.specs.Items.{items}
 use Rattle.base.specs.Outcomes.{read_as}
 use Rattle.base.specs.declared.refusal.Refusal.{Refusal}
 use Rattle.sheet.specs.declared.sheet.Sheet.{Sheet}
@@ -13,10 +14,10 @@ abbrev pub written_style : Sheet → List ℕ
 written_style s = s.style.written.now
 
 abbrev pub written_names : Sheet → List (List ℕ)
-written_names s = map (λ t. t.written.now) s.names.items
+written_names s = map (λ t. t.written.now) (items s.names)
 
 abbrev pub view : Sheet → Contents
-view s = record { style = text_of s.style; names = map text_of s.names.items; asks = s.asks.items }
+view s = record { style = text_of s.style; names = map text_of (items s.names); asks = items s.asks }
 
 -- what is written are the written forms of the texts
 pub record WellWritten (s : Sheet) : Type 0 where

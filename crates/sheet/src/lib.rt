@@ -1,5 +1,5 @@
 // The name sheet of a style: its style, its names and the answers that a run will ask for. It rests
-// on base, lines and the kit's arrayvec. It promises that a sheet is accepted exactly when its bytes
+// on base, lines and array_list. It promises that a sheet is accepted exactly when its bytes
 // are the written form of some sheet, that a refusal is the first broken rule at its line, and that
 // quoted names go round trip.
 #![tactic(auto)]

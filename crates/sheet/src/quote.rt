@@ -1,12 +1,11 @@
 // Quoted names: read at a place of the bytes, and written at the front of a buffer's tail.
 ghost use Rattle.lines.specs.Overlay.{overlaid, piece};
-ghost use Rattle.sheet.specs.Quoted.{behind_letter, extent, quoted_form, unquoted, written};
+ghost use Rattle.sheet.specs.Quoted.{behind_letter, extent, sized, unquoted, written};
 ghost use Rattle.sheet.specs.RoundTrips.{ReadsBack, ReadsExactly, Rewrites};
-ghost use Rattle.sheet.specs.Text.{good, inner, printable, quoted};
+ghost use Rattle.sheet.specs.Text.{inner, printable, quoted};
 ghost use Rattle.std.specs.Option.{option_map};
 ghost use Rattle.std.specs.Prelude.{◌≡◌, ◌+◌, ◌≤◌, IfSome, length, drop};
 
-use arrayvec::ArrayVec;
 use base::{Cause, Refusal};
 
 pub(crate) const QUOTE: u8 = b'"';
@@ -28,20 +27,12 @@ const BAD_TEXT: Refusal = Refusal {
 };
 
 // 32 quotes take two bytes each, between the outer ones.
-const LONGEST_QUOTED: usize = 66;
-
-pub(crate) type QuotedForm = ArrayVec<u8, LONGEST_QUOTED>;
+pub(crate) const LONGEST_QUOTED: usize = 66;
 
 fn is_printable(b: u8) -> bool
     ensures { result ≡ printable b }
 {
     (FIRST_PRINTABLE..=LAST_PRINTABLE).contains(&b)
-}
-
-fn is_text(bytes: &[u8]) -> bool
-    ensures { result ≡ good bytes.now }
-{
-    !bytes.is_empty() && bytes.len() <= LONGEST && bytes.iter().all(|b| is_printable(*b))
 }
 
 // Reads a quoted name at a place, which a caller may have anywhere in its bytes: begin and end of
@@ -100,23 +91,24 @@ fn written_size(bytes: &[u8]) -> Option<usize>
     None
 }
 
-// The quoted form of a text; none where it is no text.
-pub(crate) fn quote(text: &[u8]) -> Option<QuotedForm>
-    ensures { option_map (λ q. q.items) result ≡ quoted_form text.now }
+// How many bytes a text takes when quoted.
+fn quoted_size(text: &[u8]) -> Result<usize, Refusal>
+    ensures { result ≡ sized text.now }
 {
-    if !is_text(text) {
-        return None;
+    if text.is_empty() || text.len() > LONGEST {
+        return Err(BAD_TEXT);
     }
-    let mut form = ArrayVec::new();
-    form.push(QUOTE);
+    let mut size = 2;
     for byte in text {
-        form.push(*byte);
+        if !is_printable(*byte) {
+            return Err(BAD_TEXT);
+        }
+        size += 1;
         if *byte == QUOTE {
-            form.push(ESCAPE);
+            size += 1;
         }
     }
-    form.push(QUOTE);
-    Some(form)
+    Ok(size)
 }
 
 // Writes a text, quoted, into the front of the tail, and answers how many bytes it took.
@@ -133,11 +125,20 @@ fn put_quoted(tail: &mut [u8], text: &[u8]) -> Result<usize, Refusal>
     ensures value { result ≡ written tail.old text.now }
     ensures change { tail.new ≡ overlaid (piece result (quoted text.now)) tail.old }
 {
-    let form = quote(text).ok_or(BAD_TEXT)?;
-    let size = form.len();
+    let size = quoted_size(text)?;
     if size > tail.len() {
         return Err(Cause::BufferShort.at(0));
     }
-    tail[..size].copy_from_slice(form.as_slice());
+    tail[0] = QUOTE;
+    let mut next = 1;
+    for byte in text {
+        tail[next] = *byte;
+        next += 1;
+        if *byte == QUOTE {
+            tail[next] = ESCAPE;
+            next += 1;
+        }
+    }
+    tail[next] = QUOTE;
     Ok(size)
 }

@@ -1,6 +1,6 @@
 // A sheet that was read: it keeps its texts where they stand in the bytes.
 use crate::text::Text;
-use arrayvec::ArrayVec;
+use array_list::ArrayVec;
 
 mod query;
 mod read;

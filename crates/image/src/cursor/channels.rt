@@ -1,4 +1,5 @@
 // Type records: the channel types of an image.
+ghost use Rattle.array_list.specs.Items.{items};
 ghost use Rattle.image.specs.Cursor.{Reads};
 ghost use Rattle.image.specs.Layout.{many, type_record, values};
 ghost use Rattle.image.specs.View.{seen_types};
@@ -81,7 +82,7 @@ impl Cursor<'_> {
     // A number of values, at most `most`, and their types.
     pub(super) fn values(&mut self, most: u32) -> Result<TypeCodes, Refusal>
         requires { most ≤ 8 }
-        ensures { Reads (λ n. values n.types most) (λ v. v.items) self.old result self.new }
+        ensures { Reads (λ n. values n.types most) items self.old result self.new }
     {
         let count = self.count(0, most)?;
         self.records(count)

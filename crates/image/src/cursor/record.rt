@@ -1,4 +1,5 @@
 // Records that stand one behind another.
+ghost use Rattle.array_list.specs.Items.{items};
 ghost use Rattle.image.specs.Cursor.{Reads};
 ghost use Rattle.image.specs.Readers.{Reader, chain, last_of};
 ghost use Rattle.image.specs.declared.counts.Counts.{Counts};
@@ -6,12 +7,12 @@ ghost use Rattle.std.specs.Option.{option_map};
 ghost use Rattle.std.specs.Prelude.{◌≤◌, Option, Some, None, map};
 
 use super::Cursor;
-use arrayvec::ArrayVec;
+use array_list::ArrayVec;
 use base::Refusal;
 
 // A record, or a part of one, that stands behind others of its kind. Its reader goes by what the one
 // before it left, or by what none leaves.
-pub(super) trait Record: Default + Drop {
+pub(super) trait Record: Copy + Default {
     ghost Seen: { Type 0 };
 
     ghost Left: { Type 0 };
@@ -34,9 +35,9 @@ impl Cursor<'_> {
         count: u32,
     ) -> Result<ArrayVec<T, N>, Refusal>
         requires { count ≤ N }
-        ensures { Reads (λ n. chain (T.reader n) (λ _ r. T.left (Some r)) (T.left None) count) (λ v. map T.seen v.items) self.old result self.new }
+        ensures { Reads (λ n. chain (T.reader n) (λ _ r. T.left (Some r)) (T.left None) count) (λ v. map T.seen (items v)) self.old result self.new }
     {
-        let mut records = ArrayVec::new();
+        let mut records = ArrayVec::default();
         for _i in 0..count {
             let record = T::read(self, records.as_slice())?;
             records.push(record);

@@ -1,4 +1,5 @@
 // What a sheet answers.
+ghost use Rattle.array_list.specs.Items.{items};
 ghost use Rattle.sheet.specs.Format.{lookup};
 ghost use Rattle.sheet.specs.Lookup.{number_of, numbered};
 ghost use Rattle.sheet.specs.Same.{same_text};
@@ -9,7 +10,7 @@ ghost use Rattle.std.specs.List.{slice_get};
 ghost use Rattle.std.specs.Prelude.{◌≡◌, ◌<◌, ◌≤◌, IfSome, length, position};
 
 use super::Sheet;
-use crate::quote::quote;
+use crate::quote::{LONGEST_QUOTED, write_quoted};
 use crate::text::Text;
 use base::NameId;
 
@@ -39,7 +40,8 @@ impl<'a> Sheet<'a> {
 
     // The asks, each resolved to its number.
     pub fn asks(&self) -> &[i32]
-        ensures { result.now ≡ (view self.now).asks }
+        ensures value { result.now ≡ (view self.now).asks }
+        ensures few { length result.now ≤ 128 }
     {
         self.asks.as_slice()
     }
@@ -48,19 +50,21 @@ impl<'a> Sheet<'a> {
     pub fn lookup(&self, text: &[u8]) -> Option<NameId>
         ensures { result ≡ numbered (number_of (view self.now).names text.now) }
     {
-        let form = quote(text)?;
-        let [_, written @ .., _] = form.as_slice() else {
-            return None;
-        };
+        let mut quoted = [0; LONGEST_QUOTED];
+        let size = write_quoted(&mut quoted, text).ok()?;
+        let written = &quoted[1..size - 1];
         self.find(&Text { written })
     }
 
     // Where the first name stands that is the same text.
     fn place_of(&self, text: &Text<'_>) -> Option<usize>
-        ensures value { result ≡ position (λ n. same_text (text_of n) (text_of text.now)) self.now.names.items }
+        ensures value { result ≡ position (λ n. same_text (text_of n) (text_of text.now)) (items self.now.names) }
         ensures inside { IfSome result (λ i. i < 128) }
     {
-        self.names.iter().position(|name| name.is_same(text))
+        self.names
+            .as_slice()
+            .iter()
+            .position(|name| name.is_same(text))
     }
 
     // The number of the name that is the same text.

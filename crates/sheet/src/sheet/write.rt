@@ -1,7 +1,7 @@
 // Writing a sheet back, line by line.
 ghost use Rattle.lines.specs.Overlay.{Writes};
 ghost use Rattle.sheet.specs.Lines.{asked_lines_of, lines_of, name_lines_of};
-ghost use Rattle.std.specs.Prelude.{◌≡◌, [], ◌++◌, length, slice_index_or};
+ghost use Rattle.std.specs.Prelude.{◌≡◌, ◌≤◌, [], ◌++◌, length, slice_index_or};
 
 use super::Sheet;
 use base::Refusal;
@@ -15,7 +15,8 @@ const COUNT_LINES: usize = 1;
 impl Sheet<'_> {
     // How many lines the sheet has.
     pub fn line_count(&self) -> usize
-        ensures { result ≡ length (lines_of self.now) }
+        ensures value { result ≡ length (lines_of self.now) }
+        ensures few { result ≤ 259 }
     {
         HEAD_LINES + self.name_count() + COUNT_LINES + self.asks().len()
     }
@@ -37,7 +38,7 @@ impl Sheet<'_> {
     fn write_listed(&self, tail: &mut [u8], i: usize) -> Result<usize, Refusal>
         ensures { Writes tail.old tail.new (slice_index_or (name_lines_of self.now ++ asked_lines_of self.now) i []) result }
     {
-        match self.names.get(i) {
+        match self.names.as_slice().get(i) {
             Some(name) => write_text_line(tail, b"name=", name.written),
             None => self.write_asked(tail, i - self.names.len()),
         }
@@ -50,7 +51,7 @@ impl Sheet<'_> {
         if i == 0 {
             return write_number_line(tail, b"asks=", self.asks.len());
         }
-        match self.asks.get(i - COUNT_LINES) {
+        match self.asks.as_slice().get(i - COUNT_LINES) {
             Some(answer) => write_number_line(tail, b"ask=", *answer),
             None => Ok(0),
         }

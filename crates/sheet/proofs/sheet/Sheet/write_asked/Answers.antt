@@ -13,5 +13,5 @@ returns-in-Some c =
     let l = c.in-Some.ensures.lookup in
     let fits : SFits w32 z = search rules in
     subst (λ line. Writes c.args.tail.now c.write_number_line-in-Some.new.tail line c.write_number_line-in-Some.result)
-    (ap (number_line (codes "ask=")) (to_z-of_z w32 z fits) ∙ next_line (number_line (codes "ask=")) (view s).asks z _ c.args.i z c.if-i-eq0.false (omega (arith, l.3.0, ap length c.deref.ensures.0)) (l.1 ∙ ap (λ xs. get_or xs (c.args.i - 1) z) c.deref.ensures.0))
+    (ap (number_line (codes "ask=")) (to_z-of_z w32 z fits) ∙ next_line (number_line (codes "ask=")) (view s).asks z _ c.args.i z c.if-i-eq0.false (omega (arith, l.3.0, ap length c.as_slice.ensures.value)) (l.1 ∙ ap (λ xs. get_or xs (c.args.i - 1) z) c.as_slice.ensures.value))
     c.write_number_line-in-Some.ensures

@@ -3,10 +3,10 @@ use Rattle.std.proofs.lemmas.Result.{err_from_is_err_and, MatchResult-weaker, If
 use Rattle.sheet.specs.Sections.{moved}
 use Rattle.sheet.specs.View.{view}
 use Rattle.sheet.proofs.Outcome.{nothing_read, some_of, none_of, err_of, ok_of, stopped_headless, stopped_at, one_read, part_read, shorter}
-use Rattle.sheet.proofs.sheet.Sheet.read_lines.Goals as goal
+use Rattle.sheet.proofs.sheet.Sheet.take_lines.Goals as goal
 
 pub loop-section-init : goal.loop-section-init
-loop-section-init c = nothing_read c.args.bytes.now c.empty-sheet.result c.empty-sheet.ensures.says c.empty-sheet.ensures.style c.empty-sheet.ensures.names
+loop-section-init c = nothing_read c.args.bytes.now c.args.self.now c.requires.says c.requires.style c.requires.names
 
 pub returns-in_err-line-clause-value : goal.returns-in_err-line-clause-value
 returns-in_err-line-clause-value c =
