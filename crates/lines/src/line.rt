@@ -12,7 +12,7 @@ const QUOTE: &[u8] = b"\"";
 // Ends a line.
 const NEWLINE: &[u8] = b"\n";
 
-// The functions here are inlined, so that a key known at the call is copied without a loop.
+// The functions here are inlined, so that a key known at the call is copied without a call.
 
 // Puts the bytes behind the first `at` of the tail, and answers where they end.
 #[inline(always)]
